@@ -2,3 +2,4 @@ pub mod Kinds
 pub mod Names
 pub mod Point
 pub mod RationalPoint
+pub mod Within

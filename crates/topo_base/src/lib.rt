@@ -1,4 +1,9 @@
-//! The plain data of a topology: points, lines, ids, rows and edits.
+//! The plain data of a topology: points, lines, ids, rows, edits and answers, after the tables and
+//! functions of PostGIS Topology (SQL/MM Topo-Geo).
+//!
+//! It stands on std alone. It promises that data is in range where its type says so, and exact products
+//! of coordinates. What an edit does is left to the definitions of `topo_model`, and where rows are kept
+//! to `topo_tables`.
 #![tactic(auto)]
 
 mod answer;
@@ -9,8 +14,11 @@ mod ids;
 mod kind;
 mod limits;
 mod line;
+mod meeting;
 mod memory;
 mod name;
+mod products;
+mod relation;
 mod rows;
 mod rule;
 mod steps;
@@ -25,8 +33,11 @@ pub use ids::{Dart, EdgeId, FaceId, FeatureId, LayerId, NodeId};
 pub use kind::Kind;
 pub use limits::Limits;
 pub use line::Line;
+pub use meeting::Meeting;
 pub use memory::Memory;
 pub use name::Name;
+pub use products::{cross_product, product};
+pub use relation::{Relation, Side};
 pub use rows::{Box4, Counters, EdgeRow, FaceRow, FeatureRow, LayerRow, NodeRow, RelationRow};
 pub use rule::Rule;
 pub use steps::Steps;

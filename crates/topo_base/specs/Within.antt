@@ -1,0 +1,6 @@
+-- A bound on a whole number.
+use Rattle.std.specs.Prelude.{ℕ, ℤ, pos, neg_ℤ, ◌≤ℤ◌}
+
+-- z is at least -m and at most m
+abbrev pub IsWithin : ℕ → ℤ → Type 0
+IsWithin m z = (neg_ℤ (pos m) ≤ℤ z) × (z ≤ℤ pos m)
