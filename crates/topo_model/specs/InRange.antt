@@ -1,5 +1,5 @@
 -- What a script or a journal can spell: numbers, points, names and lists in range.
-use Rattle.std.specs.Prelude.{ℕ, ℤ, ◌^◌, pos, neg_ℤ, Bool, true, false, ◌&&◌, ◌||◌, ◌==◌, nat_le, nat_lt, int_le, List, [], ◌∷◌, length, Option, Some, None}
+use Rattle.std.specs.Prelude.{ℕ, ℤ, ◌^◌, pos, neg_ℤ, Bool, true, ◌&&◌, nat_lt, int_le, Option, Some, None}
 use Rattle.std.specs.List.{list_all}
 use Rattle.topo_base.specs.Point.{Point}
 use Rattle.topo_base.specs.Names.{is_name}

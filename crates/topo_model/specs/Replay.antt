@@ -2,7 +2,6 @@
 use Rattle.std.specs.Prelude.{ℕ, ◌+◌, List, [], ◌∷◌, Ok, Err}
 use Rattle.topo_base.specs.declared.edit.Edit.{Edit}
 use Rattle.topo_base.specs.declared.edit.Entry.{Entry}
-use Rattle.topo_base.specs.declared.rule.Rule.{Rule}
 use Rattle.topo_base.specs.declared.answer.Answer.{Answer}
 use Rattle.topo_base.specs.declared.answer.Answer.TheVariants.{Done, Refused}
 use Rattle.topo_model.specs.Drawing.{Drawing, nothing_drawn}

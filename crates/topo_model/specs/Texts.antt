@@ -43,10 +43,13 @@ next_text n = line_of (codes "next" ∷ decimal n.node ∷ decimal n.edge ∷ de
 abbrev pub node_text : NodeRow → List ℕ
 node_text n = line_of (codes "node" ∷ decimal n.node_id ∷ option_word n.containing_face ∷ point_words n.geom)
 
+abbrev pub edge_words : EdgeRow → List (List ℕ)
+edge_words e =
+    decimal e.edge_id ∷ decimal e.start_node ∷ decimal e.end_node ∷ dart_word e.next_left_edge ∷ dart_word e.next_right_edge
+    ∷ decimal e.left_face ∷ decimal e.right_face ∷ decimal (length e.geom) ∷ []
+
 abbrev pub edge_text : EdgeRow → List ℕ
-edge_text e =
-    line_of (codes "edge" ∷ decimal e.edge_id ∷ decimal e.start_node ∷ decimal e.end_node ∷ dart_word e.next_left_edge ∷ dart_word e.next_right_edge
-    ∷ decimal e.left_face ∷ decimal e.right_face ∷ decimal (length e.geom) ∷ line_words e.geom)
+edge_text e = line_of (codes "edge" ∷ (edge_words e ++ line_words e.geom))
 
 abbrev pub box_words : Option Box4 → List (List ℕ)
 box_words None = codes "-" ∷ []
