@@ -1,0 +1,5 @@
+pub mod Causes
+pub mod Decimal
+pub mod InMemory
+pub mod Sinks
+pub mod Sources
