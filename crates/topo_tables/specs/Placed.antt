@@ -1,0 +1,13 @@
+-- A table that keeps each row at the place of its id.
+use Rattle.std.specs.Prelude.{ℕ, ◌+◌, ◌<◌, ◌^◌, List, Option, length}
+use Rattle.topo_model.specs.Places.{IsInPlace}
+
+-- the rows ascending by id, and the next id
+pub record Placed (R : Type 0) : Type 0 where
+  pub rows : List R
+  pub next_id : ℕ
+
+-- each row is at the place of its id, and the next id is a number of 32 bits
+pub record IsPlaced {R : Type 0} (id : R → ℕ) (places : List (Option R)) : Type 0 where
+  pub in_place : IsInPlace id 1 places
+  pub small : length places + 1 < 2 ^ 32
