@@ -1,0 +1,6 @@
+pub mod Dividing
+pub mod Joining
+pub mod Links
+pub mod LinesMeeting
+pub mod Splitting
+pub mod Vertices
