@@ -1,0 +1,10 @@
+use Rattle.std.proofs.Common.{ℕ, List, ◌++◌, ap, subst, ◌∙◌}
+use Rattle.topo.specs.Endings.{SinkView, Says, says, fault_line}
+use Rattle.topo.proofs.end.end_with_line.Goals as goal
+
+pub returns : goal.returns
+returns g c =
+    let old : SinkView = record { written = g.K.Sink.written c.args.sink.now; faults = g.K.Sink.faults c.args.sink.now } in
+    let new : SinkView = record { written = g.K.Sink.written c.end_with.new.sink; faults = g.K.Sink.faults c.end_with.new.sink } in
+    let line = c.as_bytes.ensures ∙ c.in-Ok.ensures ∙ ap (λ (l : List ℕ). l ++ fault_line c.args.line) c.new-text.ensures in
+    says (subst (λ (text : List ℕ). Says old new text 3 c.end_with.result) line c.end_with.ensures)

@@ -1,0 +1,124 @@
+use crate::solo::solo;
+use crate::status::Status;
+use std::alloc::Global;
+use std::test::Fail;
+use topo_io::{MemSink, MemSource, Sink, Source};
+
+const THREE: &str = "addisonode 0 0 0\naddisonode 0 0 0\naddisonode 5 1 1";
+
+const THREE_DUE: &str =
+    "done node 1 at 1\nrefused PointBlocked at 1\nrefused NoFace at 1\nnext 2 1 1 1 1\nnode 1 0 0 0\nface 0 -\n";
+
+fn run<S: Source, K: Sink>(
+    alloc: Global,
+    word: &str,
+    source: &mut S,
+    sink: &mut K,
+) -> Result<Status, Fail> {
+    let words = vec![in alloc; String::from_str(alloc, word)?]?;
+    Ok(solo(alloc, &words, source, sink))
+}
+
+#[test]
+fn scripts_are_answered(rt: HostRuntime) -> Result<(), Fail> {
+    let alloc = rt.alloc();
+    let rows = [
+        ("", "next 1 1 1 1 1\nface 0 -\n", 0),
+        (THREE, THREE_DUE, 1),
+        (
+            "addisonode 0 1099511627776 -1099511627776\n",
+            "done node 1 at 1\nnext 2 1 1 1 1\nnode 1 0 1099511627776 -1099511627776\nface 0 -\n",
+            0,
+        ),
+        (
+            "addisonode - 1 2\naddisonode - 1 2\naddisonode - 2 1\n",
+            "done node 1 at 1\nrefused PointBlocked at 1\ndone node 2 at 2\nnext 3 1 1 1 1\nnode 1 0 1 2\nnode 2 0 2 1\nface 0 -\n",
+            1,
+        ),
+    ];
+    for (script, due, want) in rows {
+        let mut source = MemSource::plain(alloc, script.as_bytes().to_vec(alloc)?);
+        let mut sink = MemSink::plain(alloc);
+        let status = run(alloc, "apply", &mut source, &mut sink)?;
+        assert_eq!(rt; sink.bytes(), due.as_bytes(), "at {script:?}");
+        assert_eq!(rt; status.number(), want, "at {script:?}");
+    }
+    Ok(())
+}
+
+#[test]
+fn bad_lines_are_named(rt: HostRuntime) -> Result<(), Fail> {
+    let alloc = rt.alloc();
+    let rows = [
+        ("addisonode 0 1099511627777 0\n", "fault line 1\n"),
+        ("addisonode 0 0 -1099511627777\n", "fault line 1\n"),
+        ("addisonode - 0 0\n\n", "fault line 2\n"),
+        ("addisonode - 0 0\n# a comment\n", "fault line 2\n"),
+        ("addisonode - 0 0\naddisonode - 1\n", "fault line 2\n"),
+        ("addisonode - -0 0\n", "fault line 1\n"),
+        ("addisonode - +1 0\n", "fault line 1\n"),
+        ("addisonode - 01 0\n", "fault line 1\n"),
+        ("addisonode -  0 0\n", "fault line 1\n"),
+        ("addisonode - 0 0 \n", "fault line 1\n"),
+        ("addisonode - 0 0 0\n", "fault line 1\n"),
+        ("addisonode -1 0 0\n", "fault line 1\n"),
+        ("addisonode 4294967296 0 0\n", "fault line 1\n"),
+        ("addisonode - 0 0\r\n", "fault line 1\n"),
+        ("moveisonode 1 0 0\n", "fault line 1\n"),
+    ];
+    for (script, due) in rows {
+        let mut source = MemSource::plain(alloc, script.as_bytes().to_vec(alloc)?);
+        let mut sink = MemSink::plain(alloc);
+        let status = run(alloc, "apply", &mut source, &mut sink)?;
+        assert_eq!(rt; sink.bytes(), due.as_bytes(), "at {script:?}");
+        assert_eq!(rt; status.number(), 3, "at {script:?}");
+    }
+    Ok(())
+}
+
+#[test]
+fn other_words_are_refused(rt: HostRuntime) -> Result<(), Fail> {
+    let alloc = rt.alloc();
+    for word in ["", "Apply", "--help", "--version", "tables"] {
+        let mut source = MemSource::plain(alloc, Vec::new(alloc));
+        let mut sink = MemSink::plain(alloc);
+        let status = run(alloc, word, &mut source, &mut sink)?;
+        assert_eq!(rt; sink.bytes(), b"fault words\n".as_slice(), "at {word:?}");
+        assert_eq!(rt; status.number(), 2, "at {word:?}");
+    }
+    Ok(())
+}
+
+#[test]
+fn faults_end_a_run(rt: HostRuntime) -> Result<(), Fail> {
+    let alloc = rt.alloc();
+    // The fifth write fails: pieces have one, two, three and one bytes.
+    let mut source = MemSource::plain(alloc, THREE.as_bytes().to_vec(alloc)?);
+    let mut sink = MemSink::of(alloc, vec![in alloc; 5]?);
+    let status = run(alloc, "apply", &mut source, &mut sink)?;
+    assert_eq!(rt; status.number(), 6);
+    assert!(rt; THREE_DUE.as_bytes().starts_with(sink.bytes()));
+    assert!(rt; sink.bytes().len() < 17);
+    // The second read fails.
+    let mut source = MemSource::of(alloc, THREE.as_bytes().to_vec(alloc)?, vec![in alloc; 2]?);
+    let mut sink = MemSink::plain(alloc);
+    let status = run(alloc, "apply", &mut source, &mut sink)?;
+    assert_eq!(rt; status.number(), 5);
+    assert_eq!(rt; sink.bytes(), b"fault source\n".as_slice());
+    Ok(())
+}
+
+#[test]
+fn a_source_has_its_limit(rt: HostRuntime) -> Result<(), Fail> {
+    let alloc = rt.alloc();
+    let longest = 1 << 24;
+    for (more, due, want) in [(0, "fault line 1\n", 3), (1, "fault long\n", 9)] {
+        let bytes = vec![in alloc; b'\n'; longest + more]?;
+        let mut source = MemSource::plain(alloc, bytes);
+        let mut sink = MemSink::plain(alloc);
+        let status = run(alloc, "apply", &mut source, &mut sink)?;
+        assert_eq!(rt; sink.bytes(), due.as_bytes());
+        assert_eq!(rt; status.number(), want);
+    }
+    Ok(())
+}
