@@ -1,6 +1,5 @@
 use Rattle.std.proofs.Common.{◌≡◌, sym, ◌∙◌, true}
 use Rattle.topo_base.specs.Point.{same_point}
-use Rattle.topo_model.specs.Line.{first_vertex, last_vertex}
 use Rattle.topo_model.proofs.PointTests.{Decides-same_point}
 use Rattle.grid_lines.proofs.Splitting.{same_points}
 use Rattle.grid_lines.proofs.tests.join_met.Goals as goal
