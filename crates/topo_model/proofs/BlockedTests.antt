@@ -23,10 +23,10 @@ use Rattle.topo_model.proofs.Middle.{HasOther, another, at_or_not, on_at}
 use Rattle.topo_model.proofs.MeetTests.{Decides-overlaps, Decides-meets_only_at, at_one, one_or_none}
 
 -- ---- points
-at_from : (p r : Point) → SameCoordinates p r → IsAt r (rational p)
+pub at_from : (p r : Point) → SameCoordinates p r → IsAt r (rational p)
 at_from p r h = (h.0 ∙ sym (times_one r.x), h.1 ∙ sym (times_one r.y))
 
-from_at : (p r : Point) → IsAt r (rational p) → SameCoordinates p r
+pub from_at : (p r : Point) → IsAt r (rational p) → SameCoordinates p r
 from_at p r h = (h.0 ∙ times_one r.x, h.1 ∙ times_one r.y)
 
 -- the test that a point is this one
@@ -70,7 +70,7 @@ Decides-blocked_for S own p =
 
 -- ---- lines
 -- all elements meet P, where each that the list contains does
-all_from : {X : Type 0} (P : X → Type 0) (xs : List X) → ((x : X) → Contains xs x → P x) → All P xs
+pub all_from : {X : Type 0} (P : X → Type 0) (xs : List X) → ((x : X) → Contains xs x → P x) → All P xs
 all_from P xs f k d within = f (slice_index_or xs k d) (Contains-get_or xs k d within)
 
 pub Decides-own_ends : (line other : List Point) → Decides (meets_at_own_ends line other) (MeetsAtOwnEnds line other)

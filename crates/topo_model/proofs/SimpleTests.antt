@@ -54,7 +54,7 @@ closing_test p s t =
         (λ (h : HaveOne s t → ⊥). inl h)
         (one_or_none s t)
 
-no_element : {X : Type 0} (x : X) → None ≡ Some x → ⊥
+pub no_element : {X : Type 0} (x : X) → None ≡ Some x → ⊥
 no_element x e = cc
 
 -- s has no point in common with these, but that the last may close the line
@@ -153,7 +153,7 @@ pairwise_test p (a ∷ b ∷ c ∷ ps) =
 
 -- ---- the closing pair is the first segment and the last
 -- the segment before one ends where that begins
-before_it : (line : List Point) (k : ℕ) (s : Segment) → slice_get (segments_of line) (suc k) ≡ Some s → (r : Segment) × ((slice_get (segments_of line) k ≡ Some r) × (r.b ≡ s.a))
+pub before_it : (line : List Point) (k : ℕ) (s : Segment) → slice_get (segments_of line) (suc k) ≡ Some s → (r : Segment) × ((slice_get (segments_of line) k ≡ Some r) × (r.b ≡ s.a))
 before_it [] k s e = absurd (no_element s e)
 before_it (a ∷ []) k s e = absurd (no_element s e)
 before_it (a ∷ b ∷ []) k s e = absurd (no_element s e)
@@ -161,7 +161,7 @@ before_it (a ∷ b ∷ c ∷ ps) zero s e = (record { a = a; b = b }, (refl, ap 
 before_it (a ∷ b ∷ c ∷ ps) (suc k) s e = before_it (b ∷ c ∷ ps) k s e
 
 -- the first one begins at the first vertex
-first_begins : (line : List Point) (s : Segment) → slice_get (segments_of line) 0 ≡ Some s → first_vertex line ≡ s.a
+pub first_begins : (line : List Point) (s : Segment) → slice_get (segments_of line) 0 ≡ Some s → first_vertex line ≡ s.a
 first_begins [] s e = absurd (no_element s e)
 first_begins (a ∷ []) s e = absurd (no_element s e)
 first_begins (a ∷ b ∷ ps) s e = ap (λ (w : Segment). w.a) (some_same (record { a = a; b = b }) s e)
