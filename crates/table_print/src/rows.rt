@@ -183,39 +183,39 @@ fn push_relations(text: &mut Text, rows: &[RelationRow]) -> Result<(), Memory>
 }
 
 fn push_nodes(text: &mut Text, tables: &Tables) -> Result<(), Memory>
-    ensures { OnOk result (text.new ≡ text.old ++ flat_map node_text tables.now.nodes) }
+    ensures { OnOk result (text.new ≡ text.old ++ flat_map node_text tables.now.rows.nodes) }
 {
     push_rows(text, tables.nodes())
 }
 
 fn push_edges(text: &mut Text, tables: &Tables) -> Result<(), Memory>
-    ensures { OnOk result (text.new ≡ text.old ++ flat_map edge_text tables.now.edges) }
+    ensures { OnOk result (text.new ≡ text.old ++ flat_map edge_text tables.now.rows.edges) }
 {
     push_rows(text, tables.edges())
 }
 
 fn push_faces(text: &mut Text, tables: &Tables) -> Result<(), Memory>
-    ensures { OnOk result (text.new ≡ text.old ++ flat_map face_text tables.now.faces) }
+    ensures { OnOk result (text.new ≡ text.old ++ flat_map face_text tables.now.rows.faces) }
 {
     text.push_bytes(b"face 0 -\n")?;
     push_rows(text, tables.faces())
 }
 
 fn push_layers(text: &mut Text, tables: &Tables) -> Result<(), Memory>
-    ensures { OnOk result (text.new ≡ text.old ++ flat_map layer_text tables.now.layers) }
+    ensures { OnOk result (text.new ≡ text.old ++ flat_map layer_text tables.now.rows.layers) }
 {
     push_rows(text, tables.layers())
 }
 
 fn push_features(text: &mut Text, tables: &Tables) -> Result<(), Memory>
-    ensures { OnOk result (text.new ≡ text.old ++ flat_map feature_text tables.now.features) }
+    ensures { OnOk result (text.new ≡ text.old ++ flat_map feature_text tables.now.rows.features) }
 {
     push_rows(text, tables.features())
 }
 
 /// The lines of the tables.
 pub fn tables_text(alloc: Global, tables: &Tables) -> Result<Text, Memory>
-    ensures { IfOk result (λ t. t ≡ rows_text tables.now) }
+    ensures { IfOk result (λ t. t ≡ rows_text tables.now.rows) }
 {
     let mut text = Text::new(alloc);
     push_next(&mut text, &tables.counters())?;

@@ -31,9 +31,9 @@ impl Model for Desk {
 
     ghost Value = { State };
 
-    ghost view = { λ d. record { drawing = drawn d.tables; front = d.front; all_done = d.all_done } };
+    ghost view = { λ d. record { drawing = drawn d.tables.rows; front = d.front; all_done = d.all_done } };
 
-    ghost invariant = { λ d. IsBare d.tables };
+    ghost invariant = { λ d. IsBare d.tables.rows };
 }
 
 /// Why a run stops before its end.
@@ -49,7 +49,7 @@ pub enum Stop {
 
 /// Whether the face is there, where one is given.
 fn accepts_face(tables: &Tables, face: Option<FaceId>) -> bool
-    ensures { result ≡ accepts_face (drawn tables.now) face }
+    ensures { result ≡ accepts_face (drawn tables.now.rows) face }
 {
     match face {
         None => true,
@@ -78,14 +78,14 @@ fn add_iso_node(
     face: Option<FaceId>,
     geom: Grid,
 ) -> Result<Answer, Memory>
-    requires bare { IsBare tables.old }
-    requires ids { tables.old.next_ids.node + 1 < 2 ^ 32 }
+    requires bare { IsBare tables.old.rows }
+    requires ids { tables.old.rows.next_ids.node + 1 < 2 ^ 32 }
     requires front { front + 1 < 2 ^ 64 }
-    ensures answer { IfOk result (λ a. a ≡ answer_of front (add_iso_node (drawn tables.old) face geom)) }
-    ensures after { OnOk result (drawn tables.new
-        ≡ drawing_of (drawn tables.old) (add_iso_node (drawn tables.old) face geom)) }
-    ensures bare { IsBare tables.new }
-    ensures err { OnErr result (tables.new ≡ tables.old) }
+    ensures answer { IfOk result (λ a. a ≡ answer_of front (add_iso_node (drawn tables.old.rows) face geom)) }
+    ensures after { OnOk result (drawn tables.new.rows
+        ≡ drawing_of (drawn tables.old.rows) (add_iso_node (drawn tables.old.rows) face geom)) }
+    ensures bare { IsBare tables.new.rows }
+    ensures err { OnErr result (tables.new.rows ≡ tables.old.rows) }
 {
     if !accepts_face(tables, face) {
         return Ok(refused(Rule::NoFace, front));
@@ -99,14 +99,14 @@ fn add_iso_node(
 
 /// Tries an edit, by the rules of its function in the manual.
 fn try_edit(tables: &mut Tables, front: u64, edit: &Edit) -> Result<Answer, Memory>
-    requires bare { IsBare tables.old }
-    requires ids { tables.old.next_ids.node + 1 < 2 ^ 32 }
+    requires bare { IsBare tables.old.rows }
+    requires ids { tables.old.rows.next_ids.node + 1 < 2 ^ 32 }
     requires front { front + 1 < 2 ^ 64 }
     requires good { IsTrue (can_spell edit.now) }
-    ensures answer { IfOk result (λ a. a ≡ answer_of front (step (drawn tables.old) edit.now)) }
-    ensures after { OnOk result (drawn tables.new ≡ after (drawn tables.old) edit.now) }
-    ensures bare { IsBare tables.new }
-    ensures err { OnErr result (tables.new ≡ tables.old) }
+    ensures answer { IfOk result (λ a. a ≡ answer_of front (step (drawn tables.old.rows) edit.now)) }
+    ensures after { OnOk result (drawn tables.new.rows ≡ after (drawn tables.old.rows) edit.now) }
+    ensures bare { IsBare tables.new.rows }
+    ensures err { OnErr result (tables.new.rows ≡ tables.old.rows) }
 {
     match edit {
         Edit::AddIsoNode { face, geom } => add_iso_node(tables, front, *face, *geom),
@@ -127,7 +127,7 @@ impl Desk {
     }
 
     pub fn tables(&self) -> &Tables
-        ensures rows { result.now ≡ tables_of self.now.drawing }
+        ensures rows { result.now.rows ≡ tables_of self.now.drawing }
     {
         &self.tables
     }

@@ -2,10 +2,11 @@
 use Rattle.std.specs.Prelude.{ℕ, ◌+◌, ◌<◌, ◌^◌, List, Option, length}
 use Rattle.topo_model.specs.Places.{IsInPlace}
 
--- the rows ascending by id, and the next id
+-- the rows ascending by id, the next id, and for how many rows more there is room
 pub record Placed (R : Type 0) : Type 0 where
   pub rows : List R
   pub next_id : ℕ
+  pub room : ℕ
 
 -- each row is at the place of its id, and the next id is a number of 32 bits
 pub record IsPlaced {R : Type 0} (id : R → ℕ) (places : List (Option R)) : Type 0 where

@@ -1,12 +1,19 @@
 //! The tables of a topology: nodes, edges, faces, layers, features and relation rows, with the next ids.
 //!
 //! It stands on `topo_model`, whose `Tables` contracts see. It promises that a reader gives exactly what
-//! the rows have, and that a change changes nothing else. Whether an edit may be made, and which changes
+//! the rows have, and that a change changes nothing else, and takes no memory after room was reserved. Whether an edit may be made, and which changes
 //! it needs, is left to its callers.
 #![tactic(auto)]
 
+mod changes;
 mod places;
+mod reserve;
 mod row;
 mod tables;
+#[cfg(test)]
+mod tests;
+mod write;
+mod writes;
 
 pub use tables::Tables;
+pub use writes::Writes;

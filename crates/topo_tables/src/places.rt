@@ -1,28 +1,33 @@
-ghost use Rattle.std.specs.Prelude.{◌≡◌, ◌+◌, ◌<◌, ◌≤◌, ◌^◌, ◌∷◌, [], ◌++◌, OnOk, OnErr};
+ghost use Rattle.std.specs.Prelude.{◌≡◌, ◌+◌, ◌<◌, ◌≤◌, ◌^◌, ◌∷◌, [], ◌++◌, IsTrue, OnOk, IfOk};
 ghost use Rattle.std.specs.Option.{option_copied};
-ghost use Rattle.topo_model.specs.Rows.{row_at, has_row};
+ghost use Rattle.topo_model.specs.Rows.{row_at, has_row, without_row, with_change};
 ghost use Rattle.topo_model.specs.Places.{rows_of, at_place};
 
-use crate::row::Row;
+use crate::row::{Change, Row};
 use std::alloc::Global;
 use std::marker::Model;
 use topo_base::Memory;
 
 /// Rows at the places of their ids: the row with id n stands at place n - 1, and a row that has
-/// gone leaves its place empty. Contracts see the rows ascending by id, and the next id.
+/// gone leaves its place empty. Contracts see the rows ascending by id, the next id, and for how many
+/// rows more there is room.
 #[derive(Drop)]
 pub struct Places<R: Row + Drop> {
     slots: Vec<Option<R>>,
 }
 
 impl<R: Row + Drop> Model for Places<R> {
-    ghost use Rattle.std.specs.Prelude.{◌+◌, length};
+    ghost use Rattle.std.specs.Prelude.{◌+◌, ◌-◌, length, vec_len, vec_capacity};
     ghost use Rattle.topo_model.specs.Places.{rows_of};
     ghost use Rattle.topo_tables.specs.Placed.{Placed, IsPlaced};
 
     ghost Value = { Placed R };
 
-    ghost view = { λ p. record { rows = rows_of p.slots.items; next_id = length p.slots.items + 1 } };
+    ghost view = { λ p. record {
+      rows = rows_of p.slots.items;
+      next_id = length p.slots.items + 1;
+      room = vec_capacity p.slots - vec_len p.slots;
+    } };
 
     ghost invariant = { λ p. IsPlaced R.number p.slots.items };
 }
@@ -35,6 +40,25 @@ fn slot_at<R>(slots: &[Option<R>], place: usize) -> Option<&R>
         Some(Some(row)) => Some(row),
         _ => None,
     }
+}
+
+fn copy_slot<R: Row>(alloc: Global, slot: &Option<R>) -> Result<Option<R>, Memory>
+    ensures { IfOk result (λ s. s ≡ slot.now) }
+{
+    match slot {
+        None => Ok(None),
+        Some(row) => Ok(Some(row.copy(alloc)?)),
+    }
+}
+
+fn copy_slots<R: Row + Drop>(alloc: Global, slots: &[Option<R>]) -> Result<Vec<Option<R>>, Memory>
+    ensures { IfOk result (λ v. v.items ≡ slots.now) }
+{
+    let mut copy = Vec::with_capacity(alloc, slots.len())?;
+    for slot in slots {
+        copy.push(copy_slot(alloc, slot)?)?;
+    }
+    Ok(copy)
 }
 
 impl<R: Row + Drop> Places<R> {
@@ -81,15 +105,59 @@ impl<R: Row + Drop> Places<R> {
         self.slots.len() as u32 + 1
     }
 
-    /// Puts a row behind the others.
-    pub fn push(&mut self, row: R) -> Result<(), Memory>
+    /// Makes room for so many rows more. The rows stay as they are in any case.
+    pub fn reserve(&mut self, count: usize) -> Result<(), Memory>
+        ensures rows { self.new.rows ≡ self.old.rows }
+        ensures next_id { self.new.next_id ≡ self.old.next_id }
+        ensures kept { self.old.room ≤ self.new.room }
+        ensures ok { OnOk result (count ≤ self.new.room) }
+    {
+        self.slots.reserve(count)?;
+        Ok(())
+    }
+
+    /// Puts a row behind the others, for which there is room. Takes no memory.
+    pub fn push(&mut self, row: R)
         requires next { R.number row ≡ self.old.next_id }
         requires small { self.old.next_id + 1 < 2 ^ 32 }
-        ensures rows { OnOk result (self.new.rows ≡ self.old.rows ++ row ∷ []) }
-        ensures next_id { OnOk result (self.new.next_id ≡ self.old.next_id + 1) }
-        ensures err { OnErr result (self.new ≡ self.old) }
+        requires room { 0 < self.old.room }
+        ensures rows { self.new.rows ≡ self.old.rows ++ row ∷ [] }
+        ensures next_id { self.new.next_id ≡ self.old.next_id + 1 }
+        ensures room { self.old.room ≤ self.new.room + 1 }
     {
-        self.slots.push(Some(row))?;
-        Ok(())
+        self.slots.push(Some(row)).unwrap();
+    }
+
+    /// Drops the row of this id.
+    pub fn clear(&mut self, id: u32)
+        requires { IsTrue (has_row R.number self.old.rows id) }
+        ensures rows { self.new.rows ≡ without_row R.number self.old.rows id }
+        ensures next_id { self.new.next_id ≡ self.old.next_id }
+        ensures room { self.old.room ≤ self.new.room }
+    {
+        self.slots[id as usize - 1] = None;
+    }
+
+    /// Changes the row of this id.
+    pub fn change<C: Change<R>>(&mut self, id: u32, change: C)
+        requires { IsTrue (has_row R.number self.old.rows id) }
+        ensures rows { self.new.rows ≡ with_change R.number self.old.rows id (C.changed change) }
+        ensures next_id { self.new.next_id ≡ self.old.next_id }
+        ensures room { self.old.room ≤ self.new.room }
+    {
+        match &mut self.slots[id as usize - 1] {
+            Some(row) => change.make(row),
+            None => unreachable!(),
+        }
+    }
+
+    /// The same rows and the same next id.
+    pub fn copy(&self, alloc: Global) -> Result<Places<R>, Memory>
+        ensures rows { IfOk result (λ p. p.rows ≡ self.now.rows) }
+        ensures next_id { IfOk result (λ p. p.next_id ≡ self.now.next_id) }
+    {
+        Ok(Places {
+            slots: copy_slots(alloc, &self.slots)?,
+        })
     }
 }

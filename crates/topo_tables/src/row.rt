@@ -1,8 +1,9 @@
-ghost use Rattle.std.specs.Prelude.{◌≡◌, ℕ};
+ghost use Rattle.std.specs.Prelude.{◌≡◌, ℕ, IfOk};
 ghost use Rattle.topo_model.specs.Drawing.{node_id_of, layer_id_of, feature_id_of};
 ghost use Rattle.topo_model.specs.Writes.{edge_row_id, face_row_id};
 
-use topo_base::{EdgeRow, FaceRow, FeatureRow, LayerRow, NodeRow};
+use std::alloc::Global;
+use topo_base::{EdgeRow, FaceRow, FeatureRow, LayerRow, Line, Memory, Name, NodeRow};
 
 /// A row that has an id of its own.
 pub trait Row {
@@ -10,6 +11,19 @@ pub trait Row {
 
     fn number(&self) -> u32
         ensures { result ≡ number self.now };
+
+    fn copy(&self, alloc: Global) -> Result<Self, Memory>
+        ensures { IfOk result (λ r. r ≡ self.now) };
+}
+
+/// A change of a row, which keeps its id.
+pub trait Change<R: Row> {
+    ghost changed: { Self → R → R };
+
+    fn make(self, row: &mut R)
+        ensures { row.new ≡ changed self row.old };
+
+    ghost keeps: { (c : Self) (r : R) → R.number (changed c r) ≡ R.number r };
 }
 
 impl Row for NodeRow {
@@ -17,6 +31,10 @@ impl Row for NodeRow {
 
     fn number(&self) -> u32 {
         self.node_id.0
+    }
+
+    fn copy(&self, _: Global) -> Result<Self, Memory> {
+        Ok(*self)
     }
 }
 
@@ -26,6 +44,19 @@ impl Row for EdgeRow {
     fn number(&self) -> u32 {
         self.edge_id.0
     }
+
+    fn copy(&self, alloc: Global) -> Result<Self, Memory> {
+        Ok(EdgeRow {
+            edge_id: self.edge_id,
+            start_node: self.start_node,
+            end_node: self.end_node,
+            next_left_edge: self.next_left_edge,
+            next_right_edge: self.next_right_edge,
+            left_face: self.left_face,
+            right_face: self.right_face,
+            geom: copy_line(alloc, &self.geom)?,
+        })
+    }
 }
 
 impl Row for FaceRow {
@@ -33,6 +64,10 @@ impl Row for FaceRow {
 
     fn number(&self) -> u32 {
         self.face_id.0
+    }
+
+    fn copy(&self, _: Global) -> Result<Self, Memory> {
+        Ok(*self)
     }
 }
 
@@ -42,6 +77,16 @@ impl Row for LayerRow {
     fn number(&self) -> u32 {
         self.layer_id.0
     }
+
+    fn copy(&self, alloc: Global) -> Result<Self, Memory> {
+        Ok(LayerRow {
+            layer_id: self.layer_id,
+            level: self.level,
+            child_id: self.child_id,
+            feature_type: self.feature_type,
+            name: copy_name(alloc, &self.name)?,
+        })
+    }
 }
 
 impl Row for FeatureRow {
@@ -49,5 +94,27 @@ impl Row for FeatureRow {
 
     fn number(&self) -> u32 {
         self.feature_id.0
+    }
+
+    fn copy(&self, _: Global) -> Result<Self, Memory> {
+        Ok(*self)
+    }
+}
+
+fn copy_line(alloc: Global, line: &Line) -> Result<Line, Memory>
+    ensures { IfOk result (λ l. l ≡ line.now) }
+{
+    match Line::of(Vec::from_slice(alloc, line.vertices())?) {
+        Ok(line) => Ok(line),
+        Err(_) => unreachable!(),
+    }
+}
+
+fn copy_name(alloc: Global, name: &Name) -> Result<Name, Memory>
+    ensures { IfOk result (λ n. n ≡ name.now) }
+{
+    match Name::of(Vec::from_slice(alloc, name.as_bytes())?) {
+        Ok(name) => Ok(name),
+        Err(_) => unreachable!(),
     }
 }

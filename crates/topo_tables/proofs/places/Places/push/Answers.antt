@@ -1,17 +1,17 @@
-use Rattle.std.proofs.Common.{◌≡◌, ◌+◌, ◌<◌, ◌^◌, ◌∷◌, [], ℕ, Some, ◌∙◌, ap, sym, subst, arith, length, length-append}
-use Rattle.topo_model.proofs.RowLemmas.{rows_of-append, IsInPlace-append}
+use Rattle.std.proofs.Common.{ap}
+use Rattle.topo_model.proofs.RowLemmas.{rows_of-append}
 use Rattle.topo_tables.specs.Placed.{Placed}
+use Rattle.topo_tables.proofs.PlaceLemmas.{pushed_items, pushed_placed}
 use Rattle.topo_tables.proofs.places.Places.push.Goals as goal
 
-pub invariant_of-self-2 : goal.invariant_of-self-2
-invariant_of-self-2 g c =
+pub invariant_of-self : goal.invariant_of-self
+invariant_of-self g c =
     let places = c.self.inside.slots.items in
-    let next : g.R.Row.number c.args.row ≡ length places + 1 = c.requires.next ∙ sym (ap (λ (v : Placed g.row.R.Denot). v.next_id) c.self.view_is) in
-    let fits : length places + 1 + 1 < 2 ^ 32 = subst (λ (n : ℕ). n + 1 < 2 ^ 32) (sym (ap (λ (v : Placed g.row.R.Denot). v.next_id) c.self.view_is)) c.requires.small in
-    rw c.in_ok-push.ensures.items (record {
-      in_place = IsInPlace-append g.R.Row.number places 1 c.args.row c.self.invariant.in_place (omega arith);
-      small = omega (arith, length-append places (Some c.args.row ∷ []));
-    })
+    let e = pushed_items places c.push.new.self.items c.args.row c.push.result c.unwrap.result c.push.ensures.items c.unwrap.ensures in
+    rw e (pushed_placed g.R.Row.number places c.args.row c.args.self.now.next_id c.self.invariant (ap (λ (v : Placed g.row.R.Denot). v.next_id) c.self.view_is) c.requires.next c.requires.small)
 
 pub returns-clause-rows : goal.returns-clause-rows
-returns-clause-rows g c = rw (c.in_ok-push.ensures.items, ← c.self.view_is) (rows_of-append c.self.inside.slots.items c.args.row)
+returns-clause-rows g c =
+    let places = c.self.inside.slots.items in
+    let e = pushed_items places c.push.new.self.items c.args.row c.push.result c.unwrap.result c.push.ensures.items c.unwrap.ensures in
+    rw (e, ← c.self.view_is) (rows_of-append places c.args.row)

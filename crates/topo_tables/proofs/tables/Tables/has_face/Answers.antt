@@ -3,9 +3,10 @@ use Rattle.std.specs.List.{list_any}
 use Rattle.topo_base.specs.declared.rows.FaceRow.{FaceRow}
 use Rattle.topo_model.specs.Drawing.{has_face}
 use Rattle.topo_model.specs.Rows.{has_row}
-use Rattle.topo_model.specs.Tables.{Tables, universal_face, drawn}
+use Rattle.topo_model.specs.Tables.{universal_face, drawn}
 use Rattle.topo_model.specs.Writes.{face_row_id}
 use Rattle.topo_model.proofs.TableLemmas.{list_any-map}
+use Rattle.topo_tables.specs.Room.{Held}
 use Rattle.topo_tables.proofs.tables.Tables.has_face.Goals as goal
 
 -- another face than face 0 is there where it has a row
@@ -17,4 +18,4 @@ other_face faces f other =
 pub returns-else-face-eq0 : goal.returns-else-face-eq0
 returns-else-face-eq0 c =
     c.has.ensures ∙ other_face c.self.inside.faces.rows c.face.inside.0 c.if-face-eq0.false
-    ∙ ap (λ (t : Tables). has_face (drawn t) c.face.inside.0) c.self.view_is ∙ ap (λ (f : ℕ). has_face (drawn c.args.self.now) f) c.face.view_is
+    ∙ ap (λ (t : Held). has_face (drawn t.rows) c.face.inside.0) c.self.view_is ∙ ap (λ (f : ℕ). has_face (drawn c.args.self.now.rows) f) c.face.view_is

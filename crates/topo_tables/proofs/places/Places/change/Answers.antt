@@ -1,0 +1,41 @@
+use Rattle.std.proofs.Common.{◌≡◌, ap, arith}
+use Rattle.topo_model.specs.Places.{rows_of}
+use Rattle.topo_tables.specs.Placed.{Placed}
+use Rattle.topo_tables.proofs.PlaceLemmas.{stands_in, stands_within, stands_at, changed_placed, changed_rows}
+use Rattle.topo_tables.proofs.places.Places.change.Goals as goal
+
+pub overflow_sub-id : goal.overflow_sub-id
+overflow_sub-id g c =
+    let rows : rows_of c.self.inside.slots.items ≡ c.args.self.now.rows = ap (λ (v : Placed g.row.R.Denot). v.rows) c.self.view_is in
+    let s = stands_in g.R.Row.number c.self.inside.slots.items c.args.self.now.rows c.args.id c.self.invariant rows c.requires in
+    s.some
+
+pub index_mut-requires : goal.index_mut-requires
+index_mut-requires g c =
+    let rows : rows_of c.self.inside.slots.items ≡ c.args.self.now.rows = ap (λ (v : Placed g.row.R.Denot). v.rows) c.self.view_is in
+    let s = stands_in g.R.Row.number c.self.inside.slots.items c.args.self.now.rows c.args.id c.self.invariant rows c.requires in
+    let within = stands_within c.self.inside.slots.items c.args.id s in
+    omega arith
+
+pub unreachable-requires : goal.unreachable-requires
+unreachable-requires g c =
+    let rows : rows_of c.self.inside.slots.items ≡ c.args.self.now.rows = ap (λ (v : Placed g.row.R.Denot). v.rows) c.self.view_is in
+    let s = stands_in g.R.Row.number c.self.inside.slots.items c.args.self.now.rows c.args.id c.self.invariant rows c.requires in
+    let at = stands_at c.self.inside.slots.items c.args.id c.index_mut.result.now s in
+    let value = c.index_mut.ensures.value in
+    let none = c.in-None.is in
+    cc
+
+pub invariant_of-self : goal.invariant_of-self
+invariant_of-self g c =
+    let rows : rows_of c.self.inside.slots.items ≡ c.args.self.now.rows = ap (λ (v : Placed g.row.R.Denot). v.rows) c.self.view_is in
+    let s = stands_in g.R.Row.number c.self.inside.slots.items c.args.self.now.rows c.args.id c.self.invariant rows c.requires in
+    changed_placed g.R.Row.number c.self.inside.slots.items c.args.id (g.C.Change.changed c.args.change) c.index_mut.result.now c.in-Some.row c.make.new.row
+    (g.met.C.Change.keeps c.args.change) c.self.invariant s c.index_mut.ensures.value c.in-Some.is c.make.ensures
+
+pub returns-clause-rows : goal.returns-clause-rows
+returns-clause-rows g c =
+    let rows : rows_of c.self.inside.slots.items ≡ c.args.self.now.rows = ap (λ (v : Placed g.row.R.Denot). v.rows) c.self.view_is in
+    let s = stands_in g.R.Row.number c.self.inside.slots.items c.args.self.now.rows c.args.id c.self.invariant rows c.requires in
+    changed_rows g.R.Row.number c.self.inside.slots.items c.args.self.now.rows c.args.id (g.C.Change.changed c.args.change) c.index_mut.result.now c.in-Some.row c.make.new.row
+    c.self.invariant rows s c.index_mut.ensures.value c.in-Some.is c.make.ensures
