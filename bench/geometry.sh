@@ -15,7 +15,7 @@ cat > "$bench/src/main.rt" <<'RT'
 //! Times the geometry.
 #![tactic(auto)]
 
-ghost use Rattle.std.specs.Prelude.{◌≡◌, ◌<◌};
+ghost use Rattle.std.specs.Prelude.{◌≡◌, ◌<◌, ◌^◌};
 
 use grid_lines::is_simple;
 use grid_segments::{Seg, relate};
@@ -26,9 +26,11 @@ use std::{env, io};
 use topo_base::{Grid, Line, Relation, Steps};
 
 /// The next number of a linear congruence.
-fn draw(state: &mut u64) -> u64 {
+fn draw(state: &mut u64) -> u64
+    ensures { result < 2 ^ 31 }
+{
     *state = state.wrapping_mul(6364136223846793005).wrapping_add(1442695040888963407);
-    *state >> 33
+    (*state >> 33) % (1 << 31)
 }
 
 fn coordinate(state: &mut u64, wide: bool) -> i64 {
