@@ -1,0 +1,14 @@
+pub mod Reading
+pub mod Fronts
+pub mod Steps
+pub mod Calls
+pub mod Sound
+pub mod Images
+pub mod Created
+pub mod Parsed
+pub mod Scans
+pub mod Headers
+pub mod Adopting
+pub mod EntryFrames
+pub mod EntryReading
+pub mod EntryJournals

@@ -1,0 +1,43 @@
+-- How a journal of bodies is a journal of entries.
+use Rattle.std.specs.Prelude.{◌≡◌, ℕ, true, IsTrue, List, map}
+use Rattle.std.specs.List.{list_all}
+use Rattle.topo_base.specs.declared.edit.Entry.{Entry}
+use Rattle.topo_model.specs.Replay.{replay}
+use Rattle.topo_model.specs.Legal.{is_legal}
+use Rattle.topo_model.specs.InRange.{is_spelled}
+use Rattle.topo_model.specs.Spelling.{entry_bytes, frame_bytes}
+use Rattle.topo_model.specs.Answers.{Bounds}
+use Rattle.topo_model.specs.Journal.{may_stand, StandsFor, IsBadAt}
+use Rattle.topo_journal.specs.Bytes.{Legal, AreLegal, Stands, read, Bad}
+use Rattle.topo_journal.specs.Kept.{AreBytes, IsFrame, body_in, gate_behind}
+
+-- the bodies of these entries
+abbrev pub spellings : List Entry → List (List ℕ)
+spellings history = map entry_bytes history
+
+-- each of the entries can be spelled
+abbrev pub AreSpelled : List Entry → Type 0
+AreSpelled history = IsTrue (list_all is_spelled history)
+
+-- the entry can be spelled, and may stand behind these
+abbrev pub MayFollow : Bounds → List Entry → Entry → Type 0
+MayFollow m history x = IsTrue (is_spelled x) × IsTrue (may_stand m (replay history) (gate_behind (spellings history)) x)
+
+-- the test takes a body behind the spellings of entries exactly where it spells an entry that may follow them
+pub record TestsEntries (m : Bounds) (legal : Legal) : Type 0 where
+  pub takes : (history : List Entry) (x : Entry) → AreSpelled history → MayFollow m history x → legal (spellings history) (entry_bytes x) ≡ true
+  pub only : (history : List Entry) (body : List ℕ) → AreSpelled history → legal (spellings history) body ≡ true
+      → (x : Entry) × (entry_bytes x ≡ body) × MayFollow m history x
+
+-- by such a test bytes stand for bodies exactly where they stand for the entries that these spell
+pub record ReadsEntries (m : Bounds) (legal : Legal) : Type 0 where
+  pub stands : (bytes : List ℕ) (history : List Entry) → StandsFor m bytes history → Stands legal bytes (spellings history)
+  pub entries : (bytes : List ℕ) (bodies : List (List ℕ)) → AreBytes bytes → Stands legal bytes bodies
+      → (history : List Entry) × (spellings history ≡ bodies) × StandsFor m bytes history
+  pub bad : (bytes : List ℕ) (offset : ℕ) → AreBytes bytes → IsBadAt m bytes offset → read legal bytes ≡ Bad offset
+  pub offset : (bytes : List ℕ) (offset : ℕ) → AreBytes bytes → read legal bytes ≡ Bad offset → IsBadAt m bytes offset
+  pub legal_history : (history : List Entry) → AreSpelled history → IsTrue (is_legal m.max_id m.max_journal history) → AreLegal legal (spellings history)
+
+-- the frame of an entry is one that an append takes, and its body is the entry's spelling
+abbrev pub IsEntryFrame : Entry → Type 0
+IsEntryFrame x = IsFrame (frame_bytes x) × (body_in (frame_bytes x) ≡ entry_bytes x)
