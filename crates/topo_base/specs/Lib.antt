@@ -2,4 +2,5 @@ pub mod Kinds
 pub mod Names
 pub mod Point
 pub mod RationalPoint
+pub mod ScriptLines
 pub mod Within

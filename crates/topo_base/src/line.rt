@@ -1,6 +1,7 @@
 ghost use Rattle.std.specs.Prelude.{◌≡◌, ◌<◌, ◌≤◌, length, OnErr, IfOk, IfErr};
 
-use crate::Grid;
+use crate::{Grid, Memory};
+use std::alloc::Global;
 use std::marker::Model;
 
 /// A line of at least two vertices.
@@ -40,5 +41,13 @@ impl Line {
         ensures some { 2 ≤ length self.now }
     {
         &self.vertices
+    }
+
+    /// The same line once more.
+    pub fn copy(&self, alloc: Global) -> Result<Line, Memory>
+        ensures { IfOk result (λ l. l ≡ self.now) }
+    {
+        let vertices = Vec::from_slice(alloc, &self.vertices)?;
+        Ok(Line { vertices })
     }
 }

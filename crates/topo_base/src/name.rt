@@ -2,6 +2,8 @@ ghost use Rattle.std.specs.Prelude.{◌≡◌, IsTrue, IfOk, IfErr, OnOk, OnErr,
 ghost use Rattle.std.specs.List.{list_all};
 ghost use Rattle.topo_base.specs.Names.{is_letter, is_name, is_name_byte};
 
+use crate::Memory;
+use std::alloc::Global;
 use std::marker::Model;
 
 /// A name of 1 to 63 bytes: a lower-case letter, and then lower-case letters, digits or `_`.
@@ -69,5 +71,13 @@ impl Name {
         ensures good { IsTrue (is_name self.now) }
     {
         &self.bytes
+    }
+
+    /// The same name once more.
+    pub fn copy(&self, alloc: Global) -> Result<Name, Memory>
+        ensures { IfOk result (λ n. n ≡ self.now) }
+    {
+        let bytes = Vec::from_slice(alloc, &self.bytes)?;
+        Ok(Name { bytes })
     }
 }
