@@ -36,3 +36,9 @@ pub line_of-three : (text w : List ℕ) (us ms vs : List (List ℕ)) → (((text
 line_of-three text w us ms vs =
     ap (λ l. l ++ (spaced vs ++ 10 ∷ [])) (append_assoc (text ++ w) (spaced us) (spaced ms) ∙ ap (λ l. (text ++ w) ++ l) (sym (spaced-append us ms)))
     ∙ line_of-two text w (us ++ ms) vs ∙ ap (λ ws. text ++ line_of (w ∷ ws)) (append_assoc us ms vs)
+
+-- words and then more
+pub join-more : (text w : List ℕ) (us vs : List (List ℕ)) → (text ++ join_with_byte 32 (w ∷ us)) ++ spaced vs ≡ text ++ join_with_byte 32 (w ∷ (us ++ vs))
+join-more text w us vs =
+    ap (λ l. (text ++ l) ++ spaced vs) (join-spaced w us) ∙ append_assoc text (w ++ spaced us) (spaced vs)
+    ∙ ap (λ l. text ++ l) (append_assoc w (spaced us) (spaced vs) ∙ ap (λ l. w ++ l) (sym (spaced-append us vs)) ∙ sym (join-spaced w (us ++ vs)))

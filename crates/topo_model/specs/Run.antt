@@ -1,4 +1,4 @@
--- A script that is run: what its edits are answered, the history that they make, and the text that is due.
+-- Edits that are tried one after another: what they are answered, and the history that they make.
 use Rattle.std.specs.Prelude.{◌≡◌, ◌⊎◌, ℕ, max, Bool, true, false, ◌&&◌, IsTrue, List, [], ◌∷◌, ◌++◌, take, is_ok, if◌then◌else◌}
 use Rattle.std.specs.List.{list_all}
 use Rattle.topo_base.specs.declared.edit.Edit.{Edit}
@@ -7,17 +7,11 @@ use Rattle.topo_base.specs.declared.answer.Answer.{Answer}
 use Rattle.topo_base.specs.declared.answer.Answer.TheVariants.{Done, Refused, Unbound, Stale, DiskFault, Memory}
 use Rattle.topo_model.specs.Drawing.{Drawing, nothing_drawn}
 use Rattle.topo_model.specs.Step.{step}
-use Rattle.topo_model.specs.Replay.{after, replay, answer_of, front_after, answers}
-use Rattle.topo_model.specs.Legal.{is_entry}
+use Rattle.topo_model.specs.Replay.{after, replay, answer_of, front_after}
+use Rattle.topo_model.specs.Legal.{is_entry, keeps_limits}
 use Rattle.topo_model.specs.Answers.{Bounds, IsRight}
 use Rattle.topo_model.specs.CoreLaw.{entry_of}
-use Rattle.topo_model.specs.Plain.{nodes_differ}
-use Rattle.topo_model.specs.Script.{can_spell}
-use Rattle.topo_model.specs.Texts.{replies_text, tables_text}
-
--- what the edits of a script are answered where each is tried, one after another from nothing drawn
-abbrev pub script_answers : List Edit → List Answer
-script_answers es = answers nothing_drawn 0 es
+use Rattle.topo_model.specs.Plain.{IsPlain}
 
 -- what a run may answer from a drawing and a front on: each answer is Step's at its place, or it is Memory and the last one; edits behind the last answer aren't tried
 abbrev pub AreAnswersFrom : Drawing → ℕ → List Edit → List Answer → Type 0
@@ -35,13 +29,9 @@ entries_of editor [] given = []
 entries_of editor (e ∷ es) [] = []
 entries_of editor (e ∷ es) (answer ∷ given) = entry_of answer (record { editor = editor; edit = e }) ++ entries_of editor es given
 
--- the history of a script run by editor 1
+-- the history that editor 1 makes
 abbrev pub history_of : List Edit → List Answer → List Entry
 history_of es given = entries_of 1 es given
-
--- the text that is due: the line of each answer, and the tables of the history
-abbrev pub due : List Edit → List Answer → List ℕ
-due es given = replies_text given ++ tables_text (replay (history_of es given))
 
 -- the status of a run that answered all: 0 where each edit was done, and else 1
 abbrev pub is_done : Answer → Bool
@@ -73,12 +63,12 @@ AreRight m history editor seen (e ∷ es) [] = Unit {0}
 AreRight m history editor seen (e ∷ es) (answer ∷ given) =
     IsRight m history editor seen 1 e answer × AreRight m history editor (later_front seen answer) es given
 
--- the accepted edits stand in a legal history, each once and in order, all answers are right on it, and after each entry the points of two nodes differ
+-- the accepted edits stand in a legal history, each once and in order, all answers are right on it, and after each entry the drawing is plain
 pub record IsRightRun (es : List Edit) (given : List Answer) : Type 0 where
   pub legal : IsTrue (is_history nothing_drawn (history_of es given))
   pub right : (m : Bounds) → AreRight m (history_of es given) 1 0 es given
-  pub apart : (n : ℕ) → IsTrue (nodes_differ (replay (take n (history_of es given))).nodes)
+  pub plain : (n : ℕ) → IsPlain (replay (take n (history_of es given)))
 
--- so it is for every run of a script
+-- so it is for all edits within the limits
 abbrev pub RunsAreRight : Type 0
-RunsAreRight = (es : List Edit) (given : List Answer) → IsTrue (list_all can_spell es) → AreAnswers es given → IsRightRun es given
+RunsAreRight = (es : List Edit) (given : List Answer) → IsTrue (list_all keeps_limits es) → AreAnswers es given → IsRightRun es given

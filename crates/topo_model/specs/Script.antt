@@ -1,9 +1,8 @@
 -- The grammar of a script, over bytes: a line spells an edit where its words are the words of the edit.
-use Rattle.std.specs.Prelude.{◌≡◌, ◌⊎◌, ◌≢◌, ℕ, ◌+◌, Bool, true, false, ◌&&◌, IsTrue, List, [], ◌∷◌, if◌then◌else◌, ◌==◌}
-use Rattle.topo_base.specs.declared.edit.Edit.{Edit}
-use Rattle.topo_base.specs.declared.edit.Edit.TheVariants.{AddIsoNode}
-use Rattle.topo_model.specs.InRange.{is_edit}
-use Rattle.topo_model.specs.Words.{edit_words}
+use Rattle.std.specs.Prelude.{◌≡◌, ◌⊎◌, ℕ, ◌+◌, Bool, true, false, not, ◌&&◌, ◌||◌, IsTrue, List, [], ◌∷◌, filter, if◌then◌else◌, ◌==◌}
+use Rattle.topo_base.specs.ScriptLines.{ScriptLine}
+use Rattle.topo_model.specs.NamedRange.{can_spell}
+use Rattle.topo_model.specs.NamedWords.{script_words}
 
 -- a byte at the front of the first piece
 abbrev pub onto : ℕ → List (List ℕ) → List (List ℕ)
@@ -11,52 +10,75 @@ onto c [] = (c ∷ []) ∷ []
 onto c (piece ∷ pieces) = (c ∷ piece) ∷ pieces
 
 -- the pieces of a text between the bytes that part them, with these behind the last
-abbrev pub pieces : ℕ → List (List ℕ) → List ℕ → List (List ℕ)
-pieces byte end [] = end
-pieces byte end (c ∷ cs) = if c == byte then [] ∷ pieces byte end cs else onto c (pieces byte end cs)
+abbrev pub pieces : (ℕ → Bool) → List (List ℕ) → List ℕ → List (List ℕ)
+pieces parts end [] = end
+pieces parts end (c ∷ cs) = if parts c then [] ∷ pieces parts end cs else onto c (pieces parts end cs)
 
--- the byte doesn't stand in the text
-abbrev pub Lacks : ℕ → List ℕ → Type 0
-Lacks byte [] = Unit {0}
-Lacks byte (c ∷ cs) = (c ≢ byte) × Lacks byte cs
+-- a carriage return right before a line feed belongs to the line's end
+abbrev pub begins_with_feed : List ℕ → Bool
+begins_with_feed [] = false
+begins_with_feed (c ∷ cs) = c == 10
+
+abbrev pub without_returns : List ℕ → List ℕ
+without_returns [] = []
+without_returns (c ∷ cs) = if c == 13 && begins_with_feed cs then without_returns cs else c ∷ without_returns cs
 
 -- the lines of a text: each but the last ends with a line feed, and the last may
+abbrev pub is_line_feed : ℕ → Bool
+is_line_feed c = c == 10
+
 abbrev pub lines_of : List ℕ → List (List ℕ)
-lines_of text = pieces 10 [] text
+lines_of text = pieces is_line_feed [] (without_returns text)
 
--- the words of a line, with one space between two of them
+-- the words of a line, with one or more spaces or tabs between two of them and maybe some around them
+abbrev pub is_blank : ℕ → Bool
+is_blank c = c == 32 || c == 9
+
+abbrev pub without_empty : List (List ℕ) → List (List ℕ)
+without_empty [] = []
+without_empty ([] ∷ ws) = without_empty ws
+without_empty ((c ∷ cs) ∷ ws) = (c ∷ cs) ∷ without_empty ws
+
 abbrev pub words_of : List ℕ → List (List ℕ)
-words_of line = pieces 32 ([] ∷ []) line
+words_of line = without_empty (pieces is_blank ([] ∷ []) line)
 
--- the edits that a script can spell by now
-abbrev pub is_built : Edit → Bool
-is_built (AddIsoNode face p) = true
-is_built e = false
+-- a line is skipped that has no words, or whose first word begins with #
+abbrev pub is_comment : List (List ℕ) → Bool
+is_comment [] = true
+is_comment ([] ∷ ws) = false
+is_comment ((c ∷ cs) ∷ ws) = c == 35
 
-abbrev pub can_spell : Edit → Bool
-can_spell e = is_edit e && is_built e
+abbrev pub is_skipped : List ℕ → Bool
+is_skipped line = is_comment (words_of line)
 
--- the line spells the edit
-pub record IsLine (line : List ℕ) (e : Edit) : Type 0 where
-  pub good : IsTrue (can_spell e)
-  pub spelled : words_of line ≡ edit_words e
+-- the line spells this edit, with the names that it binds
+pub record IsLine (line : List ℕ) (l : ScriptLine) : Type 0 where
+  pub good : IsTrue (can_spell l)
+  pub spelled : words_of line ≡ script_words l
 
 -- each line spells the edit at its place
-abbrev pub AreLines : List (List ℕ) → List Edit → Type 0
+abbrev pub AreLines : List (List ℕ) → List ScriptLine → Type 0
 AreLines [] [] = Unit {0}
-AreLines (line ∷ lines) (e ∷ es) = IsLine line e × AreLines lines es
-AreLines [] (e ∷ es) = ⊥
+AreLines (line ∷ lines) (l ∷ ls) = IsLine line l × AreLines lines ls
+AreLines [] (l ∷ ls) = ⊥
 AreLines (line ∷ lines) [] = ⊥
 
--- the text is the script of these edits
-abbrev pub IsScript : List ℕ → List Edit → Type 0
-IsScript text es = AreLines (lines_of text) es
+-- the lines that aren't skipped
+abbrev pub edit_lines : List (List ℕ) → List (List ℕ)
+edit_lines lines = filter (λ line. not (is_skipped line)) lines
 
--- of these lines the one of this number, counted from 1, is the first that spells no edit
+-- the text is the script of these edits
+abbrev pub IsScript : List ℕ → List ScriptLine → Type 0
+IsScript text ls = AreLines (edit_lines (lines_of text)) ls
+
+-- the line is skipped, or spells an edit
+abbrev pub IsGood : List ℕ → Type 0
+IsGood line = IsTrue (is_skipped line) ⊎ ((l : ScriptLine) × IsLine line l)
+
+-- of these lines the one of this number, counted from 1, is the first that is neither
 abbrev pub IsFirstBadLine : List (List ℕ) → ℕ → Type 0
 IsFirstBadLine [] n = ⊥
-IsFirstBadLine (line ∷ lines) n =
-    ((n ≡ 1) × ((e : Edit) → IsLine line e → ⊥)) ⊎ ((e : Edit) × IsLine line e × (m : ℕ) × (n ≡ m + 1) × IsFirstBadLine lines m)
+IsFirstBadLine (line ∷ lines) n = ((n ≡ 1) × (IsGood line → ⊥)) ⊎ (IsGood line × (m : ℕ) × (n ≡ m + 1) × IsFirstBadLine lines m)
 
 abbrev pub IsFirstBad : List ℕ → ℕ → Type 0
 IsFirstBad text n = IsFirstBadLine (lines_of text) n

@@ -4,7 +4,6 @@ use Rattle.std.specs.List.{list_any}
 use Rattle.topo_base.specs.declared.rows.Counters.{Counters}
 use Rattle.topo_base.specs.declared.write.RowId.{RowId}
 use Rattle.topo_base.specs.declared.write.RowId.TheVariants.{Old, Fresh}
-use Rattle.topo_base.specs.declared.write.RowDart.{RowDart}
 use Rattle.topo_base.specs.declared.write.RowElement.{RowElement}
 use Rattle.topo_base.specs.declared.write.RowElement.TheVariants.{Drawing as WholeDrawing, Node as RowNode, Edge as RowEdge, Face as RowFace, Layer as RowLayer, Feature as RowFeature}
 use Rattle.topo_base.specs.declared.write.RowWrite.{RowWrite}

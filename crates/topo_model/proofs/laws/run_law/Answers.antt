@@ -1,5 +1,5 @@
-use Rattle.topo_model.proofs.Running.{runs_right}
+use Rattle.topo_model.proofs.ScriptRunning.{scripts_right}
 use Rattle.topo_model.proofs.laws.run_law.Goals as goal
 
 pub returns : goal.returns
-returns c = runs_right
+returns c = scripts_right
