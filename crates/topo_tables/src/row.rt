@@ -3,7 +3,7 @@ ghost use Rattle.topo_model.specs.Drawing.{node_id_of, layer_id_of, feature_id_o
 ghost use Rattle.topo_model.specs.Writes.{edge_row_id, face_row_id};
 
 use std::alloc::Global;
-use topo_base::{EdgeRow, FaceRow, FeatureRow, LayerRow, Line, Memory, Name, NodeRow};
+use topo_base::{EdgeRow, FaceRow, FeatureRow, LayerRow, Memory, NodeRow};
 
 /// A row that has an id of its own.
 pub trait Row {
@@ -54,7 +54,7 @@ impl Row for EdgeRow {
             next_right_edge: self.next_right_edge,
             left_face: self.left_face,
             right_face: self.right_face,
-            geom: copy_line(alloc, &self.geom)?,
+            geom: self.geom.copy(alloc)?,
         })
     }
 }
@@ -84,7 +84,7 @@ impl Row for LayerRow {
             level: self.level,
             child_id: self.child_id,
             feature_type: self.feature_type,
-            name: copy_name(alloc, &self.name)?,
+            name: self.name.copy(alloc)?,
         })
     }
 }
@@ -98,23 +98,5 @@ impl Row for FeatureRow {
 
     fn copy(&self, _: Global) -> Result<Self, Memory> {
         Ok(*self)
-    }
-}
-
-fn copy_line(alloc: Global, line: &Line) -> Result<Line, Memory>
-    ensures { IfOk result (λ l. l ≡ line.now) }
-{
-    match Line::of(Vec::from_slice(alloc, line.vertices())?) {
-        Ok(line) => Ok(line),
-        Err(_) => unreachable!(),
-    }
-}
-
-fn copy_name(alloc: Global, name: &Name) -> Result<Name, Memory>
-    ensures { IfOk result (λ n. n ≡ name.now) }
-{
-    match Name::of(Vec::from_slice(alloc, name.as_bytes())?) {
-        Ok(name) => Ok(name),
-        Err(_) => unreachable!(),
     }
 }
