@@ -1,0 +1,60 @@
+-- The words of edits and lines.
+use Rattle.std.proofs.Common.{◌≡◌, ℕ, ◌&&◌, List, [], ◌∷◌, ◌++◌, IsTrue, ap, subst}
+use Rattle.std.specs.Prelude.{codes, nat_le, length}
+use Rattle.std.specs.List.{list_all}
+use Rattle.std.proofs.lemmas.Bool.{and_parts, and_from}
+use Rattle.topo_base.specs.Names.{is_name}
+use Rattle.topo_base.specs.ScriptLines.{ScriptLine}
+use Rattle.topo_base.specs.declared.named.NamedEdit.{NamedEdit}
+use Rattle.topo_base.specs.declared.named.NamedEdit.TheVariants.{AddIsoNode, MoveIsoNode, RemoveIsoNode, AddIsoEdge, RemoveIsoEdge, AddEdgeModFace, AddEdgeNewFaces, RemEdgeModFace, RemEdgeNewFace, ModEdgeSplit, NewEdgesSplit, ModEdgeHeal, NewEdgeHeal, AddLayer, CreateTopoGeom, AddElement, RemElement, DropFeature}
+use Rattle.topo_model.specs.InRange.{is_grid_point}
+use Rattle.topo_model.specs.NamedRange.{is_id_word, is_option_id_word, is_named_pair, is_new_line, is_named_edit, is_built, is_script_line, can_spell}
+use Rattle.topo_model.specs.NamedWords.{named_words, names_words}
+use Rattle.script_reader.specs.Reading.{AreNames, IsEdit, AreWordsOf}
+use Rattle.script_reader.proofs.IdWords.{id_not_equals, option_id_not_equals}
+
+-- ---- edits
+-- no name is =
+name_not_equals : (name : List ℕ) → IsTrue (is_name name) → name ≡ codes "=" → ⊥
+name_not_equals name h e = let good = subst (λ n. IsTrue (is_name n)) e h in absurd cc
+
+-- the second word of an edit isn't =
+pub not_binding : (word : List ℕ) (words : List (List ℕ)) (e : NamedEdit) → IsTrue (is_named_edit e) → word ∷ codes "=" ∷ words ≡ named_words e → ⊥
+not_binding word words (AddIsoNode face p) good is = option_id_not_equals face (and_parts (is_option_id_word face) (is_grid_point p) good).0 cc
+not_binding word words (MoveIsoNode n p) good is = id_not_equals n (and_parts (is_id_word n) (is_grid_point p) good).0 cc
+not_binding word words (RemoveIsoNode n) good is = id_not_equals n good cc
+not_binding word words (AddIsoEdge a b line) good is = id_not_equals a (and_parts (is_id_word a) (is_id_word b) (and_parts (is_id_word a && is_id_word b) (is_new_line line) good).0).0 cc
+not_binding word words (RemoveIsoEdge e) good is = id_not_equals e good cc
+not_binding word words (AddEdgeModFace a b line) good is = id_not_equals a (and_parts (is_id_word a) (is_id_word b) (and_parts (is_id_word a && is_id_word b) (is_new_line line) good).0).0 cc
+not_binding word words (AddEdgeNewFaces a b line) good is = id_not_equals a (and_parts (is_id_word a) (is_id_word b) (and_parts (is_id_word a && is_id_word b) (is_new_line line) good).0).0 cc
+not_binding word words (RemEdgeModFace e) good is = id_not_equals e good cc
+not_binding word words (RemEdgeNewFace e) good is = id_not_equals e good cc
+not_binding word words (ModEdgeSplit e p) good is = id_not_equals e (and_parts (is_id_word e) (is_grid_point p) good).0 cc
+not_binding word words (NewEdgesSplit e p) good is = id_not_equals e (and_parts (is_id_word e) (is_grid_point p) good).0 cc
+not_binding word words (ModEdgeHeal e f) good is = id_not_equals e (and_parts (is_id_word e) (is_id_word f) good).0 cc
+not_binding word words (NewEdgeHeal e f) good is = id_not_equals e (and_parts (is_id_word e) (is_id_word f) good).0 cc
+not_binding word words (AddLayer name kind child) good is = name_not_equals name (and_parts (is_name name) (is_option_id_word child) good).0 cc
+not_binding word words (CreateTopoGeom l xs) good is = id_not_equals l (and_parts (is_id_word l) (nat_le (length xs) 4096) (and_parts (is_id_word l && nat_le (length xs) 4096) (list_all is_named_pair xs) good).0).0 cc
+not_binding word words (AddElement t id type) good is = id_not_equals t (and_parts (is_id_word t) (is_id_word id) (and_parts (is_id_word t && is_id_word id) (is_id_word type) good).0).0 cc
+not_binding word words (RemElement t id type) good is = id_not_equals t (and_parts (is_id_word t) (is_id_word id) (and_parts (is_id_word t && is_id_word id) (is_id_word type) good).0).0 cc
+not_binding word words (DropFeature t) good is = id_not_equals t good cc
+
+-- ---- lines
+-- the edit of a line
+pub edit_good : (l : ScriptLine) → IsTrue (can_spell l) → IsTrue (is_named_edit l.edit && is_built l.edit)
+edit_good l h =
+    let parts = and_parts (is_script_line l) (is_built l.edit) h in
+    and_from (is_named_edit l.edit) (is_built l.edit) (and_parts (list_all is_name l.names) (is_named_edit l.edit) parts.0).1 parts.1
+
+pub names_good : (l : ScriptLine) → IsTrue (can_spell l) → IsTrue (list_all is_name l.names)
+names_good l h = (and_parts (list_all is_name l.names) (is_named_edit l.edit) (and_parts (is_script_line l) (is_built l.edit) h).0).0
+
+-- a line whose second word is = binds the names of the first, and the words behind are those of its edit
+binding_by : (word : List ℕ) (words : List (List ℕ)) (ns : List (List ℕ)) (e : NamedEdit) → IsTrue (list_all is_name ns) → IsTrue (is_named_edit e && is_built e)
+    → word ∷ codes "=" ∷ words ≡ names_words ns ++ named_words e → AreNames word ns × IsEdit words e
+binding_by word words [] e names good is = absurd (not_binding word words e (and_parts (is_named_edit e) (is_built e) good).0 is)
+binding_by word words (n ∷ ns) e names good is =
+    (record { good = names; spelled = ap (λ w. w ∷ codes "=" ∷ []) cc }, record { good = good; spelled = cc })
+
+pub binding_parts : (word : List ℕ) (words : List (List ℕ)) (l : ScriptLine) → AreWordsOf (word ∷ codes "=" ∷ words) l → AreNames word l.names × IsEdit words l.edit
+binding_parts word words l h = binding_by word words l.names l.edit (names_good l h.good) (edit_good l h.good) h.spelled

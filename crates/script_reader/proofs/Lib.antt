@@ -1,0 +1,9 @@
+pub mod LineEnds
+pub mod WordSplits
+pub mod IdWords
+pub mod NameSplits
+pub mod EditWords
+pub mod ScriptSteps
+pub mod NamedEdits
+pub mod Naming
+pub mod Pairing

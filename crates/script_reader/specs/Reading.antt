@@ -1,0 +1,56 @@
+-- What the words of a line spell.
+use Rattle.std.specs.Prelude.{◌≡◌, ℕ, false, ◌&&◌, IsTrue, List, [], ◌∷◌, Option, Some, None, codes}
+use Rattle.std.specs.List.{list_all}
+use Rattle.std.specs.Fmt.{signed_decimal}
+use Rattle.topo_base.specs.Names.{is_name}
+use Rattle.topo_base.specs.Point.{Point, IsOnGrid}
+use Rattle.topo_base.specs.ScriptLines.{ScriptLine}
+use Rattle.topo_base.specs.declared.named.IdWord.{IdWord}
+use Rattle.topo_base.specs.declared.named.NamedEdit.{NamedEdit}
+use Rattle.topo_model.specs.NamedRange.{is_id_word, is_option_id_word, is_named_edit, is_built, can_spell}
+use Rattle.topo_model.specs.NamedWords.{id_word, option_id_word, named_words, names_words, script_words}
+use Rattle.topo_model.specs.Script.{IsLine, IsGood, is_skipped}
+use Rattle.script_reader.specs.declared.read.Reading.{Reading}
+use Rattle.script_reader.specs.declared.read.Reading.TheVariants.{Skipped, Edit, Bad}
+
+-- a value of which P holds was found, or there is none
+abbrev pub Finds : {A : Type 0} → (A → Type 0) → Option A → Type 0
+Finds P (Some x) = P x
+Finds {A = A} P None = (x : A) → P x → ⊥
+
+-- the word is that of this id
+pub record IsIdWord (word : List ℕ) (w : IdWord) : Type 0 where
+  pub good : IsTrue (is_id_word w)
+  pub spelled : word ≡ id_word w
+
+-- the word is that of this id, or of none
+pub record IsOptionIdWord (word : List ℕ) (w : Option IdWord) : Type 0 where
+  pub good : IsTrue (is_option_id_word w)
+  pub spelled : word ≡ option_id_word w
+
+-- the words are the coordinates of a grid point
+pub record IsPoint (x y : List ℕ) (p : Point) : Type 0 where
+  pub grid : IsOnGrid p
+  pub x_is : x ≡ signed_decimal p.x
+  pub y_is : y ≡ signed_decimal p.y
+
+-- the word and = are those of these names
+pub record AreNames (word : List ℕ) (names : List (List ℕ)) : Type 0 where
+  pub good : IsTrue (list_all is_name names)
+  pub spelled : word ∷ codes "=" ∷ [] ≡ names_words names
+
+-- the words are those of an edit that a script can spell
+pub record IsEdit (words : List (List ℕ)) (e : NamedEdit) : Type 0 where
+  pub good : IsTrue (is_named_edit e && is_built e)
+  pub spelled : words ≡ named_words e
+
+-- the words are those of a line
+pub record AreWordsOf (words : List (List ℕ)) (l : ScriptLine) : Type 0 where
+  pub good : IsTrue (can_spell l)
+  pub spelled : words ≡ script_words l
+
+-- what a line is read as
+abbrev pub IsReading : List ℕ → Reading → Type 0
+IsReading line Skipped = IsTrue (is_skipped line)
+IsReading line (Edit l) = (is_skipped line ≡ false) × IsLine line l
+IsReading line Bad = IsGood line → ⊥

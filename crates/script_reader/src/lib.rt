@@ -1,0 +1,26 @@
+//! Scripts: the grammar of their lines, the names that they bind, and the edits that they give.
+//!
+//! It stands on `topo_model`, whose definition of the grammar is over bytes. It promises that a text is
+//! read as the one script that it spells, or that its first bad line is named, and that a name stands for
+//! the id to which it was bound last. Whether an edit is accepted is left to the crates above.
+#![tactic(auto)]
+
+mod bindings;
+mod edits;
+mod end;
+mod ids;
+mod line;
+mod lines;
+mod names;
+mod parting;
+mod points;
+mod read;
+mod resolving;
+#[cfg(test)]
+mod tests;
+mod words;
+
+pub use bindings::Bindings;
+pub use end::ResolveEnd;
+pub use line::{LineEdit, ScriptLine};
+pub use read::{ScriptEnd, read_script};
