@@ -3,12 +3,14 @@ use Rattle.std.proofs.Common.{◌≡◌, ◌≢◌, ℕ, ◌<◌, ◌≤◌, Boo
 use Rattle.std.specs.Prelude.{Option, IfSome, codes}
 use Rattle.std.specs.Io.KnownBytes.{Appends}
 use Rattle.std.specs.List.{list_all}
-use Rattle.topo_base.specs.declared.edit.Edit.{Edit}
+use Rattle.topo_base.specs.ScriptLines.{ScriptLine}
 use Rattle.topo_base.specs.declared.answer.Answer.{Answer}
 use Rattle.topo_io.specs.Causes.{Rose}
-use Rattle.topo_model.specs.Script.{IsScript, IsFirstBad, lines_of}
-use Rattle.topo_model.specs.Run.{script_answers, status_of, is_done}
-use Rattle.topo_model.proofs.Scripts.{lines_or_bad, script_unique}
+use Rattle.topo_model.specs.Script.{IsScript, IsFirstBad, lines_of, edit_lines}
+use Rattle.topo_model.specs.Run.{status_of, is_done}
+use Rattle.topo_model.specs.ScriptRun.{script_answers}
+use Rattle.topo_model.proofs.Scripts.{lines_or_bad}
+use Rattle.topo_model.proofs.ScriptsUnique.{script_unique}
 use Rattle.topo.specs.Endings.{Outside, said, unsaid, says, no_memory, ran_whole, ran_cut, Ending, bad_words, source_fault, too_long, not_read, no_script, bad_line, ran, IsApply, max_source, HasRun, HasBadLine, HasFront, words_front, source_front, long_front, nothing_written, line_front, script_front}
 
 -- how a call ended, by its status
@@ -149,10 +151,10 @@ other_of_end words old new result (ended_memory is p q) = (λ e. omega arith, λ
 other_of_end words old new result (ended_long is p q) = (λ e. omega arith, λ e. omega arith)
 
 -- ---- nothing else may come
-pub complete : (words : List (List ℕ)) (old new : Outside) (result : ℕ) (bytes : List ℕ) (es : List Edit) → IsApply words → old.source.left ≡ Some bytes → IsScript bytes es → length bytes ≤ max_source
+pub complete : (words : List (List ℕ)) (old new : Outside) (result : ℕ) (bytes : List ℕ) (es : List ScriptLine) → IsApply words → old.source.left ≡ Some bytes → IsScript bytes es → length bytes ≤ max_source
     → (Rose old.source.faults new.source.faults → ⊥) → (Rose old.sink.faults new.sink.faults → ⊥) → Ended words old new result → (result ≡ status_of (script_answers es)) ⊎ (result ≡ 8)
 complete words old new result bytes es good e h fits calm still (ended_run small run) =
-    let same = script_unique (lines_of bytes) run.script es (at_some (λ bs. IsScript bs run.script) old.source.left bytes e run.read.told) h in
+    let same = script_unique (edit_lines (lines_of bytes)) run.script es (at_some (λ bs. IsScript bs run.script) old.source.left bytes e run.read.told) h in
     inl (run.run.status ∙ ap (λ fs. status_of (script_answers fs)) same)
 complete words old new result bytes es good e h fits calm still (ended_words is p q) = absurd (p good)
 complete words old new result bytes es good e h fits calm still (ended_line is p) =

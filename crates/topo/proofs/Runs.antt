@@ -1,153 +1,238 @@
--- A run, one edit after another.
-use Rattle.std.proofs.Common.{◌≡◌, ℕ, zero, suc, ◌+◌, ◌<◌, ◌≤◌, Bool, true, false, cond, not, ◌&&◌, List, [], ◌∷◌, ◌++◌, length, get_or, take, Option, Ok, Err, IsTrue, refl, sym, subst, ap, ◌∙◌, arith, append-nil}
-use Rattle.std.specs.Prelude.{flat_map}
+-- A run, one line after another.
+use Rattle.std.proofs.Common.{◌≡◌, ℕ, zero, suc, ◌+◌, ◌<◌, ◌≤◌, Bool, true, false, cond, not, ◌&&◌, List, [], ◌∷◌, ◌++◌, length, get_or, take, Option, Some, None, Result, Ok, Err, is_ok, IsTrue, refl, sym, subst, ap, ◌∙◌, arith, append-nil}
+use Rattle.std.specs.Prelude.{flat_map, OnOk}
 use Rattle.std.specs.Io.KnownBytes.{Appends}
 use Rattle.std.specs.List.{list_all}
 use Rattle.std.proofs.lemmas.List.{take_more}
 use Rattle.std.proofs.lemmas.List.Concat.{flat_map-append}
 use Rattle.std.proofs.lemmas.Bool.{and_parts, and_from}
+use Rattle.topo_base.specs.Point.{Point}
+use Rattle.topo_base.specs.ScriptLines.{ScriptLine}
 use Rattle.topo_base.specs.declared.rule.Rule.{Rule}
 use Rattle.topo_base.specs.declared.edit.Edit.{Edit}
-use Rattle.topo_base.specs.declared.edit.Edit.TheVariants.{AddIsoNode}
+use Rattle.topo_base.specs.declared.edit.Edit.TheVariants as edit
+use Rattle.topo_base.specs.declared.element.Element.{Element}
+use Rattle.topo_base.specs.declared.answer.Answer.{Answer}
+use Rattle.topo_base.specs.declared.answer.Answer.TheVariants.{Done, Refused, Unbound, Stale, DiskFault, Memory}
+use Rattle.topo_base.specs.declared.named.IdWord.{IdWord}
+use Rattle.topo_base.specs.declared.named.NamedEdit.{NamedEdit}
+use Rattle.topo_base.specs.declared.named.NamedEdit.TheVariants.{AddIsoNode}
 use Rattle.topo_base.specs.declared.rule.Rule.TheVariants.{NoFace, PointBlocked, NotInFace}
+use Rattle.script_reader.specs.Bindings.{names_of}
 use Rattle.topo_io.specs.Sinks.{AppendsFront}
 use Rattle.topo_io.proofs.Written.{appended_more, appended_none}
+use Rattle.topo_model.specs.Drawing.{Drawing}
 use Rattle.topo_model.specs.Outcome.{Accepted, Outcome}
 use Rattle.topo_model.specs.IsoEdits.{accepts_face, is_given_face}
 use Rattle.topo_model.specs.Blocked.{is_blocked}
 use Rattle.topo_model.specs.Faces.{face_at}
 use Rattle.topo_model.specs.Step.{step}
-use Rattle.topo_model.specs.Replay.{after, after_all, answer_of, front_after, answers, drawing_of}
-use Rattle.topo_model.specs.Script.{can_spell}
+use Rattle.topo_model.specs.Replay.{after, answer_of, front_after, drawing_of}
+use Rattle.topo_model.specs.Bindings.{Names, id_of, with_one, resolve, bound, ids_of}
+use Rattle.topo_model.specs.NamedRange.{is_script_line, is_built, can_spell}
 use Rattle.topo_model.specs.Texts.{reply_text}
 use Rattle.topo_model.specs.Run.{is_done}
-use Rattle.topo_model.proofs.Scripts.{built_of}
-use Rattle.topo.specs.Run.{State, told, next, next_all, reply, replies, CutsShort}
+use Rattle.topo_model.specs.ScriptRun.{edit_at, answer_to, answer_at, drawing_with, front_with, place_after, place_after_all, answers_at}
+use Rattle.topo.specs.Run.{State, Kept, state_of, answered, with_names, next, next_all, Shows, reply, replies, is_tried, CutsShort}
 
--- ---- what the state has after an outcome
-told_drawing : (s : State) (o : Outcome) → (told s o).drawing ≡ drawing_of s.drawing o
-told_drawing s (Ok done) = refl
-told_drawing s (Err rule) = refl
+-- ---- what the state has after some lines
+pub next_all_place : (s : State) (ls : List ScriptLine) → (next_all s ls).place ≡ place_after_all s.place ls
+next_all_place s [] = refl
+next_all_place s (l ∷ ls) = next_all_place (next s l) ls
 
-told_front : (s : State) (o : Outcome) → (told s o).front ≡ front_after s.front o
-told_front s (Ok done) = refl
-told_front s (Err rule) = refl
-
-told_done : (s : State) (o : Outcome) → (told s o).all_done ≡ (s.all_done && is_done (answer_of s.front o))
-told_done s (Ok done) = and_true s.all_done
-  where
-    and_true : (b : Bool) → b ≡ (b && true)
-    and_true true = refl
-    and_true false = refl
-told_done s (Err rule) = and_false s.all_done
-  where
-    and_false : (b : Bool) → false ≡ (b && false)
-    and_false true = refl
-    and_false false = refl
-
--- the answers behind an edit are those of the next state
-answers_next : (s : State) (e : Edit) (es : List Edit) → answers (after s.drawing e) (front_after s.front (step s.drawing e)) es ≡ answers (next s e).drawing (next s e).front es
-answers_next s e es =
-    let d = told_drawing s (step s.drawing e) in
-    let f = told_front s (step s.drawing e) in
-    λ i. answers (sym d i) (sym f i) es
-
-pub next_all_drawing : (s : State) (es : List Edit) → (next_all s es).drawing ≡ after_all s.drawing es
-next_all_drawing s [] = refl
-next_all_drawing s (e ∷ es) = next_all_drawing (next s e) es ∙ ap (λ S. after_all S es) (told_drawing s (step s.drawing e))
+and_true : (b : Bool) → b ≡ (b && true)
+and_true true = refl
+and_true false = refl
 
 and_assoc : (a b c : Bool) → ((a && b) && c) ≡ (a && (b && c))
 and_assoc true b c = refl
 and_assoc false b c = refl
 
-pub next_all_done : (s : State) (es : List Edit) → (next_all s es).all_done ≡ (s.all_done && list_all is_done (answers s.drawing s.front es))
+pub next_all_done : (s : State) (ls : List ScriptLine) → (next_all s ls).all_done ≡ (s.all_done && list_all is_done (answers_at s.place ls))
 next_all_done s [] = and_true s.all_done
-  where
-    and_true : (b : Bool) → b ≡ (b && true)
-    and_true true = refl
-    and_true false = refl
-next_all_done s (e ∷ es) =
-    let behind = list_all is_done (answers (next s e).drawing (next s e).front es) in
-    next_all_done (next s e) es ∙ ap (λ b. b && behind) (told_done s (step s.drawing e))
-    ∙ and_assoc s.all_done (is_done (answer_of s.front (step s.drawing e))) behind
-    ∙ ap (λ given. s.all_done && (is_done (answer_of s.front (step s.drawing e)) && list_all is_done given)) (sym (answers_next s e es))
+next_all_done s (l ∷ ls) = next_all_done (next s l) ls ∙ and_assoc s.all_done (is_done (answer_at s.place l)) (list_all is_done (answers_at (place_after s.place l) ls))
 
-pub next_all-append : (s : State) (es fs : List Edit) → next_all s (es ++ fs) ≡ next_all (next_all s es) fs
-next_all-append s [] fs = refl
-next_all-append s (e ∷ es) fs = next_all-append (next s e) es fs
+pub next_all-append : (s : State) (ls ks : List ScriptLine) → next_all s (ls ++ ks) ≡ next_all (next_all s ls) ks
+next_all-append s [] ks = refl
+next_all-append s (l ∷ ls) ks = next_all-append (next s l) ls ks
 
-pub answers-append : (s : State) (es fs : List Edit) → answers s.drawing s.front (es ++ fs) ≡ answers s.drawing s.front es ++ answers (next_all s es).drawing (next_all s es).front fs
-answers-append s [] fs = refl
-answers-append s (e ∷ es) fs =
-    ap (λ given. answer_of s.front (step s.drawing e) ∷ given)
-    (answers_next s e (es ++ fs) ∙ answers-append (next s e) es fs ∙ ap (λ given. given ++ answers (next_all s (e ∷ es)).drawing (next_all s (e ∷ es)).front fs) (sym (answers_next s e es)))
+pub answers-append : (s : State) (ls ks : List ScriptLine) → answers_at s.place (ls ++ ks) ≡ answers_at s.place ls ++ answers_at (next_all s ls).place ks
+answers-append s [] ks = refl
+answers-append s (l ∷ ls) ks = ap (λ given. answer_at s.place l ∷ given) (answers-append (next s l) ls ks)
 
-pub replies-append : (s : State) (es fs : List Edit) → replies s (es ++ fs) ≡ replies s es ++ replies (next_all s es) fs
-replies-append s es fs =
-    ap (flat_map reply_text) (answers-append s es fs) ∙ flat_map-append reply_text (answers s.drawing s.front es) (answers (next_all s es).drawing (next_all s es).front fs)
+pub replies-append : (s : State) (ls ks : List ScriptLine) → replies s (ls ++ ks) ≡ replies s ls ++ replies (next_all s ls) ks
+replies-append s ls ks = ap (flat_map reply_text) (answers-append s ls ks) ∙ flat_map-append reply_text (answers_at s.place ls) (answers_at (next_all s ls).place ks)
 
--- ---- one edit more
-pub take_one : (es : List Edit) (i : ℕ) (e : Edit) → i < length es → e ≡ get_or es i e → take (i + 1) es ≡ take i es ++ e ∷ []
-take_one es i e inside is = take_more es i e inside ∙ ap (λ x. take i es ++ x ∷ []) (sym is)
+-- ---- one line more
+pub take_one : (ls : List ScriptLine) (i : ℕ) (l : ScriptLine) → i < length ls → l ≡ get_or ls i l → take (i + 1) ls ≡ take i ls ++ l ∷ []
+take_one ls i l inside is = take_more ls i l inside ∙ ap (λ x. take i ls ++ x ∷ []) (sym is)
 
-pub replies_more : (s t : State) (es : List Edit) (i : ℕ) (e : Edit) → i < length es → e ≡ get_or es i e → t ≡ next_all s (take i es) → replies s (take (i + 1) es) ≡ replies s (take i es) ++ reply t e
-replies_more s t es i e inside is at =
-    ap (replies s) (take_one es i e inside is) ∙ replies-append s (take i es) (e ∷ [])
-    ∙ ap (λ l. replies s (take i es) ++ l) (append-nil (reply (next_all s (take i es)) e) ∙ ap (λ x. reply x e) (sym at))
+pub replies_more : (s t : State) (ls : List ScriptLine) (i : ℕ) (l : ScriptLine) → i < length ls → l ≡ get_or ls i l → t ≡ next_all s (take i ls) → replies s (take (i + 1) ls) ≡ replies s (take i ls) ++ reply t l
+replies_more s t ls i l inside is at =
+    ap (replies s) (take_one ls i l inside is) ∙ replies-append s (take i ls) (l ∷ [])
+    ∙ ap (λ text. replies s (take i ls) ++ text) (append-nil (reply (next_all s (take i ls)) l) ∙ ap (λ x. reply x l) (sym at))
 
-pub next_all_more : (s t : State) (es : List Edit) (i : ℕ) (e : Edit) → i < length es → e ≡ get_or es i e → t ≡ next_all s (take i es) → next_all s (take (i + 1) es) ≡ next t e
-next_all_more s t es i e inside is at =
-    ap (next_all s) (take_one es i e inside is) ∙ next_all-append s (take i es) (e ∷ []) ∙ ap (λ x. next x e) (sym at)
+pub next_all_more : (s t : State) (ls : List ScriptLine) (i : ℕ) (l : ScriptLine) → i < length ls → l ≡ get_or ls i l → t ≡ next_all s (take i ls) → next_all s (take (i + 1) ls) ≡ next t l
+next_all_more s t ls i l inside is at =
+    ap (next_all s) (take_one ls i l inside is) ∙ next_all-append s (take i ls) (l ∷ []) ∙ ap (λ x. next x l) (sym at)
+
+pub replies_next : (s t : State) (ls : List ScriptLine) (i : ℕ) (l : ScriptLine) (a b c : Option (List ℕ)) → i < length ls → l ≡ get_or ls i l → t ≡ next_all s (take i ls)
+    → Appends a b (replies s (take i ls)) → Appends b c (reply t l) → Appends a c (replies s (take (i + 1) ls))
+replies_next s t ls i l a b c inside is at before now = subst (Appends a c) (sym (replies_more s t ls i l inside is at)) (appended_more a b c _ _ before now)
 
 -- what a test says of all it says of each
-pub list_all-at : (p : Edit → Bool) (es : List Edit) (i : ℕ) (e : Edit) → IsTrue (list_all p es) → i < length es → e ≡ get_or es i e → IsTrue (p e)
-list_all-at p [] i e h inside is = absurd (omega arith)
-list_all-at p (x ∷ es) zero e h inside is = let parts = and_parts (p x) (list_all p es) h in subst (λ y. IsTrue (p y)) (sym is) parts.0
-list_all-at p (x ∷ es) (suc i) e h inside is = let parts = and_parts (p x) (list_all p es) h in list_all-at p es i e parts.1 (omega arith) is
+pub list_all-at : (p : ScriptLine → Bool) (ls : List ScriptLine) (i : ℕ) (l : ScriptLine) → IsTrue (list_all p ls) → i < length ls → l ≡ get_or ls i l → IsTrue (p l)
+list_all-at p [] i l h inside is = absurd (omega arith)
+list_all-at p (x ∷ ls) zero l h inside is = let parts = and_parts (p x) (list_all p ls) h in subst (λ y. IsTrue (p y)) (sym is) parts.0
+list_all-at p (x ∷ ls) (suc i) l h inside is = let parts = and_parts (p x) (list_all p ls) h in list_all-at p ls i l parts.1 (omega arith) is
+
+-- ---- the edit that a line gives can be tried
+given_tried : (p : Point) (b : Names) (w : Option IdWord) (e : Edit) → resolve b (AddIsoNode w p) ≡ Some e → IsTrue (is_tried e)
+given_tried p b None e is = let same : edit.AddIsoNode None p ≡ e = cc in subst (λ x. IsTrue (is_tried x)) same refl
+given_tried p b (Some w) e is = found (id_of b w) is
+  where
+    found : (o : Option ℕ) → with_one o (λ n. edit.AddIsoNode (Some n) p) ≡ Some e → IsTrue (is_tried e)
+    found None is = absurd cc
+    found (Some n) is = let same : edit.AddIsoNode (Some n) p ≡ e = cc in subst (λ x. IsTrue (is_tried x)) same refl
+
+pub built_tried : (b : Names) (n : NamedEdit) (e : Edit) → IsTrue (is_built n) → resolve b n ≡ Some e → IsTrue (is_tried e)
+built_tried b (AddIsoNode w p) e good is = given_tried p b w e is
+built_tried b n e good is = absurd cc
+
+pub line_tried : (b : Names) (l : ScriptLine) (e : Edit) → IsTrue (can_spell l) → resolve b l.edit ≡ Some e → IsTrue (is_tried e)
+line_tried b l e good is = built_tried b l.edit e (and_parts (is_script_line l) (is_built l.edit) good).1 is
 
 -- ---- at most one node and one place more
 pub record IsFew (s t : State) (n : ℕ) : Type 0 where
-  pub nodes : t.drawing.next_ids.node ≤ s.drawing.next_ids.node + n
-  pub places : t.front ≤ s.front + n
+  pub nodes : t.place.drawing.next_ids.node ≤ s.place.drawing.next_ids.node + n
+  pub places : t.place.front ≤ s.place.front + n
 
-few_choice : (s : State) (b c d : Bool) (x y z : Rule) (done : Accepted) → done.drawing.next_ids.node ≡ s.drawing.next_ids.node + 1
-    → IsFew s (told s (cond b (Err x) (cond c (Err y) (cond d (Err z) (Ok done))))) 1
-few_choice s true c d x y z done h = record { nodes = omega arith; places = omega arith }
-few_choice s false true d x y z done h = record { nodes = omega arith; places = omega arith }
-few_choice s false false true x y z done h = record { nodes = omega arith; places = omega arith }
-few_choice s false false false x y z done h = record { nodes = omega arith; places = omega arith }
+record IsLittle (S T : Drawing) (front behind : ℕ) : Type 0 where
+  nodes : T.next_ids.node ≤ S.next_ids.node + 1
+  places : behind ≤ front + 1
 
-next_few : (s : State) (e : Edit) → IsTrue (can_spell e) → IsFew s (next s e) 1
-next_few s (AddIsoNode face p) good =
-    few_choice s (not (accepts_face s.drawing face)) (is_blocked s.drawing p) (not (is_given_face face (face_at s.drawing p))) NoFace PointBlocked NotInFace _ refl
-next_few s e good = let built = built_of e good in absurd cc
+little_choice : (S : Drawing) (front : ℕ) (b c d : Bool) (x y z : Rule) (done : Accepted) → done.drawing.next_ids.node ≡ S.next_ids.node + 1
+    → IsLittle S (drawing_of S (cond b (Err x) (cond c (Err y) (cond d (Err z) (Ok done))))) front (front_after front (cond b (Err x) (cond c (Err y) (cond d (Err z) (Ok done)))))
+little_choice S front true c d x y z done h = record { nodes = omega arith; places = omega arith }
+little_choice S front false true d x y z done h = record { nodes = omega arith; places = omega arith }
+little_choice S front false false true x y z done h = record { nodes = omega arith; places = omega arith }
+little_choice S front false false false x y z done h = record { nodes = omega arith; places = omega arith }
 
-pub next_all_few : (s : State) (es : List Edit) → IsTrue (list_all can_spell es) → IsFew s (next_all s es) (length es)
+edit_little : (S : Drawing) (front : ℕ) (e : Edit) → IsTrue (is_tried e) → IsLittle S (after S e) front (front_after front (step S e))
+edit_little S front (edit.AddIsoNode face p) good =
+    little_choice S front (not (accepts_face S face)) (is_blocked S p) (not (is_given_face face (face_at S p))) NoFace PointBlocked NotInFace _ refl
+edit_little S front e good = absurd cc
+
+with_little : (S : Drawing) (front : ℕ) (o : Option Edit) → ((e : Edit) → o ≡ Some e → IsTrue (is_tried e)) → IsLittle S (drawing_with S o) front (front_with S front o)
+with_little S front None good = record { nodes = omega arith; places = omega arith }
+with_little S front (Some e) good = edit_little S front e (good e refl)
+
+next_few : (s : State) (l : ScriptLine) → IsTrue (can_spell l) → IsFew s (next s l) 1
+next_few s l good =
+    let few = with_little s.place.drawing s.place.front (edit_at s.place l) (λ e is. line_tried s.place.names l e good is) in
+    record { nodes = few.nodes; places = few.places }
+
+pub next_all_few : (s : State) (ls : List ScriptLine) → IsTrue (list_all can_spell ls) → IsFew s (next_all s ls) (length ls)
 next_all_few s [] good = record { nodes = omega arith; places = omega arith }
-next_all_few s (e ∷ es) good =
-    let parts = and_parts (can_spell e) (list_all can_spell es) good in
-    let one = next_few s e parts.0 in
-    let more = next_all_few (next s e) es parts.1 in
+next_all_few s (l ∷ ls) good =
+    let parts = and_parts (can_spell l) (list_all can_spell ls) good in
+    let one = next_few s l parts.0 in
+    let more = next_all_few (next s l) ls parts.1 in
+    let nodes = one.nodes in
+    let places = one.places in
+    let nodes' = more.nodes in
+    let places' = more.places in
     record { nodes = omega arith; places = omega arith }
 
-pub list_all-take : (p : Edit → Bool) (es : List Edit) (n : ℕ) → IsTrue (list_all p es) → IsTrue (list_all p (take n es))
+pub list_all-take : (p : ScriptLine → Bool) (ls : List ScriptLine) (n : ℕ) → IsTrue (list_all p ls) → IsTrue (list_all p (take n ls))
 list_all-take p [] zero h = refl
 list_all-take p [] (suc n) h = refl
-list_all-take p (x ∷ es) zero h = refl
-list_all-take p (x ∷ es) (suc n) h = let parts = and_parts (p x) (list_all p es) h in and_from (p x) (list_all p (take n es)) parts.0 (list_all-take p es n parts.1)
+list_all-take p (x ∷ ls) zero h = refl
+list_all-take p (x ∷ ls) (suc n) h = let parts = and_parts (p x) (list_all p ls) h in and_from (p x) (list_all p (take n ls)) parts.0 (list_all-take p ls n parts.1)
 
 -- ---- a reply that is cut
-pub cuts : (old t : State) (es : List Edit) (i : ℕ) (e : Edit) (a b c : Option (List ℕ)) → i < length es → e ≡ get_or es i e → t ≡ next_all old (take i es)
-    → Appends a b (replies old (take i es)) → AppendsFront b c (reply t e) → CutsShort old es a c
-cuts old t es i e a b c inside is at before part = record {
+pub cuts : (old t : State) (ls : List ScriptLine) (i : ℕ) (l : ScriptLine) (a b c : Option (List ℕ)) → i < length ls → l ≡ get_or ls i l → t ≡ next_all old (take i ls)
+    → Appends a b (replies old (take i ls)) → AppendsFront b c (reply t l) → CutsShort old ls a c
+cuts old t ls i l a b c inside is at before part = record {
   tried = i;
-  cut = e;
+  cut = l;
   inside = inside;
-  one_more = take_one es i e inside is;
+  one_more = take_one ls i l inside is;
   front = part.front;
-  begins = (part.begins.0, part.begins.1 ∙ ap (λ x. reply x e) at);
-  text = appended_more a b c (replies old (take i es)) part.front before part.grown;
+  begins = (part.begins.0, part.begins.1 ∙ ap (λ x. reply x l) at);
+  text = appended_more a b c (replies old (take i ls)) part.front before part.grown;
 }
 
 pub nothing_of : (b : Option (List ℕ)) (text : List ℕ) → AppendsFront b b text
 nothing_of b text = record { front = []; begins = (text, refl); grown = appended_none b }
+
+-- ---- what a line makes of the state
+abbrev pub front_told : ℕ → Answer → ℕ
+front_told front (Done ids f) = f
+front_told front (Refused rule f) = front
+front_told front Unbound = front
+front_told front (Stale x read now f) = front
+front_told front DiskFault = front
+front_told front Memory = front
+
+told_of : (front : ℕ) (o : Outcome) → front_told front (answer_of front o) ≡ front_after front o
+told_of front (Ok done) = refl
+told_of front (Err rule) = refl
+
+told_with : (S : Drawing) (front : ℕ) (o : Option Edit) → front_told front (answer_to S front o) ≡ front_with S front o
+told_with S front None = refl
+told_with S front (Some e) = told_of front (step S e)
+
+-- the parts of the state after an answer
+pub record IsAnswered (k old : Kept) (l : ScriptLine) (a : Answer) : Type 0 where
+  pub drawing : k.drawing ≡ drawing_with old.drawing (edit_at (state_of old).place l)
+  pub answer : a ≡ answer_at (state_of old).place l
+  pub front : k.front ≡ front_told old.front a
+  pub bindings : k.bindings ≡ old.bindings
+  pub all_done : k.all_done ≡ (old.all_done && is_done a)
+
+pub answered_of : (k old : Kept) (l : ScriptLine) (a : Answer) → IsAnswered k old l a → state_of k ≡ answered (state_of old) l
+answered_of k old l a h =
+    let front = h.front ∙ ap (front_told old.front) h.answer ∙ told_with old.drawing old.front (edit_at (state_of old).place l) in
+    let done = h.all_done ∙ ap (λ x. old.all_done && is_done x) h.answer in
+    λ i. record { place = record { drawing = h.drawing i; front = front i; names = names_of (h.bindings i) }; all_done = done i }
+
+and_false : (b : Bool) → false ≡ (b && false)
+and_false true = refl
+and_false false = refl
+
+pub done_told : (front f : ℕ) (all : Bool) (a : Answer) (ids : List Element) → a ≡ Done ids f → (f ≡ front_told front a) × (all ≡ (all && is_done a))
+done_told front f all a ids is = rw is (refl, and_true all)
+
+pub other_told : (front : ℕ) (all : Bool) (a : Answer) → ((ids : List Element) (f : ℕ) → a ≡ Done ids f → ⊥) → (front ≡ front_told front a) × (false ≡ (all && is_done a))
+other_told front all (Done ids f) other = absurd (other ids f refl)
+other_told front all (Refused rule f) other = (refl, and_false all)
+other_told front all Unbound other = (refl, and_false all)
+other_told front all (Stale x read now f) other = (refl, and_false all)
+other_told front all DiskFault other = (refl, and_false all)
+other_told front all Memory other = (refl, and_false all)
+
+-- the names of a line are bound behind its answer
+pub next_of : (s m t : State) (l : ScriptLine) (a : Answer) → m ≡ answered s l → a ≡ answer_at s.place l → t ≡ with_names m (bound m.place.names l.names (ids_of a)) → t ≡ next s l
+next_of s m t l a at is bound_is = bound_is ∙ (λ i. with_names (at i) (bound (at i).place.names l.names (ids_of (is i))))
+
+pub on_ok : {A E : Type 0} (P : Type 0) (r : Result A E) → is_ok r ≡ true → OnOk r P → P
+on_ok P (Ok x) is h = h
+on_ok P (Err e) is h = absurd cc
+
+pub same_error : {A B E : Type 0} (e x : E) → ◌≡◌ {A = Result A E} (Err e) (Err x) → ◌≡◌ {A = Result B E} (Err e) (Err x)
+same_error e x is = let same : e ≡ x = cc in ap Err same
+
+pub ok_true : {E : Type 0} (b : Bool) → ◌≡◌ {A = Result Bool E} (Ok b) (Ok true) → b ≡ true
+ok_true b e = cc
+
+-- ---- a run that can't go on
+-- the names of the last line wanted memory: all lines were answered
+pub shows_at : (s t u : State) (ls : List ScriptLine) (i : ℕ) (l : ScriptLine) → i < length ls → l ≡ get_or ls i l → t ≡ next_all s (take i ls) → Shows u (next t l) → Shows u (next_all s (take (i + 1) ls))
+shows_at s t u ls i l inside is at shown = subst (Shows u) (sym (next_all_more s t ls i l inside is at)) shown
+
+pub take_whole : (ls : List ScriptLine) (i : ℕ) → length ls ≤ i → take i ls ≡ ls
+take_whole [] zero all = refl
+take_whole [] (suc i) all = refl
+take_whole (l ∷ ls) zero all = absurd (omega arith)
+take_whole (l ∷ ls) (suc i) all = ap (λ ks. l ∷ ks) (take_whole ls i (omega arith))

@@ -2,13 +2,14 @@
 use Rattle.std.specs.Prelude.{◌≡◌, ◌⊎◌, ℕ, ◌^◌, ◌<◌, ◌≤◌, ◌++◌, ◌∷◌, List, [], length, Option, Some, IfSome, OnSome, codes}
 use Rattle.std.specs.Fmt.{decimal}
 use Rattle.std.specs.Io.KnownBytes.{Appends}
-use Rattle.topo_base.specs.declared.edit.Edit.{Edit}
+use Rattle.topo_base.specs.ScriptLines.{ScriptLine}
 use Rattle.topo_base.specs.declared.answer.Answer.{Answer}
 use Rattle.topo_io.specs.Causes.{Rose}
 use Rattle.topo_io.specs.Sinks.{IsFront, AppendsFront}
 use Rattle.topo_model.specs.Script.{IsScript, IsFirstBad}
 use Rattle.topo_model.specs.Texts.{replies_text}
-use Rattle.topo_model.specs.Run.{script_answers, AreAnswers, due, status_of, IsRightRun}
+use Rattle.topo_model.specs.Run.{status_of}
+use Rattle.topo_model.specs.ScriptRun.{script_answers, AreScriptAnswers, due, IsRightScript}
 
 -- what a source shows, what a sink shows, and both
 pub record SourceView : Type 0 where
@@ -69,25 +70,25 @@ all_but_last (a ∷ []) = []
 all_but_last (a ∷ b ∷ given) = a ∷ all_but_last (b ∷ given)
 
 -- the script was run to its end, and all that is due is written
-pub record IsWholeRun (es : List Edit) (old new : SinkView) (result : ℕ) : Type 0 where
-  pub status : result ≡ status_of (script_answers es)
-  pub text : Appends old.written new.written (due es (script_answers es))
-  pub right : IsRightRun es (script_answers es)
+pub record IsWholeRun (lines : List ScriptLine) (old new : SinkView) (result : ℕ) : Type 0 where
+  pub status : result ≡ status_of (script_answers lines)
+  pub text : Appends old.written new.written (due lines (script_answers lines))
+  pub right : IsRightScript lines (script_answers lines)
   pub calm : new.faults ≡ old.faults
 
 -- the run stopped: what is written is a front of what is due for the answers given, with the lines of all of these but the last whole
-pub record IsCutRun (es : List Edit) (old new : SinkView) : Type 0 where
+pub record IsCutRun (lines : List ScriptLine) (old new : SinkView) : Type 0 where
   pub given : List Answer
-  pub answers : AreAnswers es given
-  pub right : IsRightRun es given
+  pub answers : AreScriptAnswers lines given
+  pub right : IsRightScript lines given
   pub text : List ℕ
-  pub due_front : IsFront text (due es given)
+  pub due_front : IsFront text (due lines given)
   pub whole_lines : IsFront (replies_text (all_but_last given)) text
   pub grown : Appends old.written new.written text
 
-pub data RunsScript (es : List Edit) (old new : SinkView) (result : ℕ) : Type 0 where
-  ran_whole : IsWholeRun es old new result → RunsScript es old new result
-  ran_cut : IsCutBy old new result → IsCutRun es old new → RunsScript es old new result
+pub data RunsScript (lines : List ScriptLine) (old new : SinkView) (result : ℕ) : Type 0 where
+  ran_whole : IsWholeRun lines old new result → RunsScript lines old new result
+  ran_cut : IsCutBy old new result → IsCutRun lines old new → RunsScript lines old new result
 
 -- ---- the ways to end
 pub data Ending (words : List (List ℕ)) (old new : Outside) (result : ℕ) : Type 0 where
@@ -97,13 +98,13 @@ pub data Ending (words : List (List ℕ)) (old new : Outside) (result : ℕ) : T
   not_read : IsApply words → result ≡ 8 → Appends old.sink.written new.sink.written [] → Ending words old new result
   no_script : IsApply words → WasRead (λ bytes. Unit {0}) old.source new.source → result ≡ 8 → Appends old.sink.written new.sink.written [] → Ending words old new result
   bad_line : IsApply words → (n : ℕ) → WasRead (λ bytes. IsFirstBad bytes n) old.source new.source → Tells old.sink new.sink (fault_line n) 3 result → Ending words old new result
-  ran : IsApply words → (es : List Edit) → WasRead (λ bytes. IsScript bytes es) old.source new.source → RunsScript es old.sink new.sink result → Ending words old new result
+  ran : IsApply words → (lines : List ScriptLine) → WasRead (λ bytes. IsScript bytes lines) old.source new.source → RunsScript lines old.sink new.sink result → Ending words old new result
 
 -- ---- what the statuses say
 -- 0 and 1: a good script was run to its end, and no fault rose
 pub record HasRun (words : List (List ℕ)) (old new : Outside) (result : ℕ) : Type 0 where
   pub good : IsApply words
-  pub script : List Edit
+  pub script : List ScriptLine
   pub read : WasRead (λ bytes. IsScript bytes script) old.source new.source
   pub run : IsWholeRun script old.sink new.sink result
 
@@ -121,4 +122,4 @@ pub data HasFront (words : List (List ℕ)) (old new : Outside) : Type 0 where
   long_front : IsApply words → IfSome old.source.left (λ bytes. max_source < length bytes) → AppendsFront old.sink.written new.sink.written (codes "fault long\n") → HasFront words old new
   nothing_written : IsApply words → Appends old.sink.written new.sink.written [] → HasFront words old new
   line_front : IsApply words → (n : ℕ) → WasRead (λ bytes. IsFirstBad bytes n) old.source new.source → AppendsFront old.sink.written new.sink.written (fault_line n) → HasFront words old new
-  script_front : IsApply words → (es : List Edit) → WasRead (λ bytes. IsScript bytes es) old.source new.source → IsCutRun es old.sink new.sink → HasFront words old new
+  script_front : IsApply words → (lines : List ScriptLine) → WasRead (λ bytes. IsScript bytes lines) old.source new.source → IsCutRun lines old.sink new.sink → HasFront words old new

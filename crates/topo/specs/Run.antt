@@ -1,66 +1,99 @@
--- How a run goes on, edit after edit.
-use Rattle.std.specs.Prelude.{◌≡◌, ℕ, ◌+◌, ◌^◌, ◌<◌, Bool, true, false, List, [], ◌∷◌, ◌++◌, take, length, Option, Ok, Err}
+-- How a run goes on, line after line.
+use Rattle.std.specs.Prelude.{◌≡◌, ℕ, ◌+◌, ◌^◌, ◌<◌, Bool, true, false, ◌&&◌, List, [], ◌∷◌, ◌++◌, take, length, Option}
 use Rattle.std.specs.Io.KnownBytes.{Appends}
+use Rattle.topo_base.specs.ScriptLines.{ScriptLine}
 use Rattle.topo_base.specs.declared.edit.Edit.{Edit}
+use Rattle.topo_base.specs.declared.edit.Edit.TheVariants.{AddIsoNode}
 use Rattle.topo_io.specs.Sinks.{IsFront}
-use Rattle.topo_model.specs.Drawing.{Drawing, nothing_drawn}
-use Rattle.topo_model.specs.Outcome.{Outcome}
-use Rattle.topo_model.specs.Step.{step}
-use Rattle.topo_model.specs.Replay.{answer_of, answers}
+use Rattle.topo_model.specs.Bindings.{Names}
+use Rattle.script_reader.specs.Bindings.{names_of}
+use Rattle.topo_model.specs.Drawing.{Drawing}
+use Rattle.topo_model.specs.Run.{is_done}
+use Rattle.topo_model.specs.ScriptRun.{Place, beginning, edit_at, drawing_with, front_with, answer_at, place_after, answers_at}
 use Rattle.topo_model.specs.Tables.{Tables, universal_face}
 use Rattle.topo_model.specs.Texts.{reply_text, replies_text}
 
--- where a run stands: the drawing, how many edits were accepted, and whether all were
+-- where a run stands, and whether all lines so far were done
 pub record State : Type 0 where
-  pub drawing : Drawing
-  pub front : ℕ
+  pub place : Place
   pub all_done : Bool
 
+-- the same as a desk keeps it, with the names that are bound as a list
+pub record Kept : Type 0 where
+  pub drawing : Drawing
+  pub front : ℕ
+  pub bindings : List (List ℕ × ℕ)
+  pub all_done : Bool
+
+abbrev pub state_of : Kept → State
+state_of k = record { place = record { drawing = k.drawing; front = k.front; names = names_of k.bindings }; all_done = k.all_done }
+
 abbrev pub start : State
-start = record { drawing = nothing_drawn; front = 0; all_done = true }
+start = record { place = beginning; all_done = true }
 
--- the state after an outcome, after an edit, and after some
-abbrev pub told : State → Outcome → State
-told s (Ok done) = record { drawing = done.drawing; front = s.front + 1; all_done = s.all_done }
-told s (Err rule) = record s { all_done = false }
+-- the state after a line was answered, whose names are still to be bound
+abbrev pub answered : State → ScriptLine → State
+answered s l = record {
+  place = record {
+    drawing = drawing_with s.place.drawing (edit_at s.place l);
+    front = front_with s.place.drawing s.place.front (edit_at s.place l);
+    names = s.place.names;
+  };
+  all_done = s.all_done && is_done (answer_at s.place l);
+}
 
-abbrev pub next : State → Edit → State
-next s e = told s (step s.drawing e)
+-- the state with other names bound
+abbrev pub with_names : State → Names → State
+with_names s names = record { place = record { drawing = s.place.drawing; front = s.place.front; names = names }; all_done = s.all_done }
 
-abbrev pub next_all : State → List Edit → State
+-- the state after a line, and after some
+abbrev pub next : State → ScriptLine → State
+next s l = record { place = place_after s.place l; all_done = s.all_done && is_done (answer_at s.place l) }
+
+abbrev pub next_all : State → List ScriptLine → State
 next_all s [] = s
-next_all s (e ∷ es) = next_all (next s e) es
+next_all s (l ∷ ls) = next_all (next s l) ls
 
--- the line of an edit's answer, and of some
-abbrev pub reply : State → Edit → List ℕ
-reply s e = reply_text (answer_of s.front (step s.drawing e))
+-- what is still shown of a state when no line more is tried
+pub record Shows (t s : State) : Type 0 where
+  pub drawing : t.place.drawing ≡ s.place.drawing
+  pub all_done : t.all_done ≡ s.all_done
 
-abbrev pub replies : State → List Edit → List ℕ
-replies s es = replies_text (answers s.drawing s.front es)
+-- the text of a line's answer, and of some
+abbrev pub reply : State → ScriptLine → List ℕ
+reply s l = reply_text (answer_at s.place l)
+
+abbrev pub replies : State → List ScriptLine → List ℕ
+replies s ls = replies_text (answers_at s.place ls)
+
+-- the edits that can be tried by now
+abbrev pub is_tried : Edit → Bool
+is_tried (AddIsoNode face p) = true
+is_tried e = false
 
 -- the tables of a drawing without edges, in which face 0 is the only one
 pub record IsBare (t : Tables) : Type 0 where
   pub no_edges : t.edges ≡ []
   pub one_face : t.faces ≡ universal_face ∷ []
 
--- some edits more have ids and places
+-- some lines more have ids and places
 pub record HasRoom (s : State) (more : ℕ) : Type 0 where
-  pub nodes : s.drawing.next_ids.node + more < 2 ^ 32
-  pub places : s.front + more < 2 ^ 64
+  pub nodes : s.place.drawing.next_ids.node + more < 2 ^ 32
+  pub places : s.place.front + more < 2 ^ 64
 
--- the edits up to one that wanted memory were tried, and their replies were written
-pub record StopsShort (old new : State) (es : List Edit) (before now : Option (List ℕ)) : Type 0 where
+-- the lines up to one that wanted memory were tried, and their replies were written
+pub record StopsShort (old new : State) (ls : List ScriptLine) (before now : Option (List ℕ)) : Type 0 where
   pub tried : ℕ
-  pub inside : tried < length es
-  pub state : new ≡ next_all old (take tried es)
-  pub text : Appends before now (replies old (take tried es))
+  pub inside : tried < length ls
+  pub drawing : new.place.drawing ≡ (next_all old (take tried ls)).place.drawing
+  pub text : Appends before now (replies old (take tried ls))
 
 -- the replies up to one were written, and a front of that one
-pub record CutsShort (old : State) (es : List Edit) (before now : Option (List ℕ)) : Type 0 where
+pub record CutsShort (old : State) (ls : List ScriptLine) (before now : Option (List ℕ)) : Type 0 where
   pub tried : ℕ
-  pub cut : Edit
-  pub inside : tried < length es
-  pub one_more : take (tried + 1) es ≡ take tried es ++ cut ∷ []
+  pub cut : ScriptLine
+  pub inside : tried < length ls
+  pub one_more : take (tried + 1) ls ≡ take tried ls ++ cut ∷ []
   pub front : List ℕ
-  pub begins : IsFront front (reply (next_all old (take tried es)) cut)
-  pub text : Appends before now (replies old (take tried es) ++ front)
+  pub begins : IsFront front (reply (next_all old (take tried ls)) cut)
+  pub text : Appends before now (replies old (take tried ls) ++ front)

@@ -1,14 +1,15 @@
 ghost use Rattle.std.specs.Prelude.{◌≡◌, ◌≤◌, ◌^◌, ◌++◌, OnOk, IsTrue, length, codes, if◌then◌else◌};
 ghost use Rattle.std.specs.List.{list_all};
-ghost use Rattle.topo_model.specs.Script.{can_spell};
+ghost use Rattle.topo_model.specs.NamedRange.{can_spell};
 ghost use Rattle.topo_model.specs.Texts.{tables_text};
 ghost use Rattle.topo.specs.Endings.{Says, Tells, Prints, RunsScript, fault_line};
 
 use crate::run::{Desk, Stop};
 use crate::status::Status;
+use script_reader::ScriptLine;
 use std::alloc::Global;
 use table_print::tables_text;
-use topo_base::{Edit, Memory, Text};
+use topo_base::{Memory, Text};
 use topo_io::{Sink, push_count, write_all};
 
 /// Writes a text, and ends with the status, or with 6.
@@ -79,10 +80,10 @@ fn whole_status(all_done: bool) -> u8
 }
 
 /// Runs a script on a desk with nothing drawn.
-pub fn end_with_script<K: Sink>(alloc: Global, script: &[Edit], sink: &mut K) -> Status
-    requires short { length script.now ≤ 2 ^ 24 }
-    requires good { IsTrue (list_all can_spell script.now) }
-    ensures { RunsScript script.now (record { written = K.written sink.old; faults = K.faults sink.old })
+pub fn end_with_script<K: Sink>(alloc: Global, script: Vec<ScriptLine>, sink: &mut K) -> Status
+    requires short { length script.items ≤ 2 ^ 24 }
+    requires good { IsTrue (list_all can_spell script.items) }
+    ensures { RunsScript script.items (record { written = K.written sink.old; faults = K.faults sink.old })
         (record { written = K.written sink.new; faults = K.faults sink.new }) result }
 {
     let mut desk = Desk::new(alloc);

@@ -7,7 +7,6 @@
 mod end;
 mod outside;
 mod run;
-mod script;
 mod solo;
 mod status;
 #[cfg(test)]

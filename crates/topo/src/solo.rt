@@ -1,14 +1,15 @@
 ghost use Rattle.std.specs.Prelude.{◌≡◌, ◌≢◌, ◌≤◌, ◌<◌, ◌⊎◌, ◌↔◌, ◌^◌, List, ℕ, Some, [], length, map, string_bytes, IsTrue, IfSome, OnSome, codes};
 ghost use Rattle.std.specs.Io.KnownBytes.{Appends};
-ghost use Rattle.topo_base.specs.declared.edit.Edit.{Edit as EditValue};
+ghost use Rattle.topo_base.specs.ScriptLines.{ScriptLine};
 ghost use Rattle.topo_io.specs.Causes.{Rose};
-ghost use Rattle.topo_model.specs.Run.{script_answers, status_of};
+ghost use Rattle.topo_model.specs.Run.{status_of};
 ghost use Rattle.topo_model.specs.Script.{IsScript, IsFirstBad};
+ghost use Rattle.topo_model.specs.ScriptRun.{script_answers};
 ghost use Rattle.topo.specs.Endings.{Ending, IsApply, HasRun, HasBadLine, HasFront, max_source};
 
 use crate::end::{end_with, end_with_line, end_with_script};
-use crate::script::{ScriptEnd, read_script};
 use crate::status::Status;
+use script_reader::{ScriptEnd, read_script};
 use std::alloc::Global;
 use topo_io::{ReadEnd, Sink, Source, read_all};
 
@@ -56,7 +57,7 @@ fn solo_by_cause<S: Source, K: Sink>(
         Ok(script) => {
             // The text isn't needed any more, and the run may want its memory.
             drop(bytes);
-            end_with_script(alloc, &script, sink)
+            end_with_script(alloc, script, sink)
         }
         Err(ScriptEnd::Memory) => Status::of(8),
         Err(ScriptEnd::BadLine { line }) => end_with_line(alloc, sink, line),
@@ -84,10 +85,10 @@ pub fn solo<S: Source, K: Sink>(
         result }
 
     // And where all that is so, the status is 0 or 1, or memory ran out.
-    ensures complete { (bytes : List ℕ) (es : List EditValue) → IsApply (map string_bytes words.now) → S.left source.old ≡ Some bytes
-        → IsScript bytes es → length bytes ≤ max_source
+    ensures complete { (bytes : List ℕ) (lines : List ScriptLine) → IsApply (map string_bytes words.now) → S.left source.old ≡ Some bytes
+        → IsScript bytes lines → length bytes ≤ max_source
         → (Rose (S.faults source.old) (S.faults source.new) → ⊥) → (Rose (K.faults sink.old) (K.faults sink.new) → ⊥)
-        → (result ≡ status_of (script_answers es)) ⊎ (result ≡ 8) }
+        → (result ≡ status_of (script_answers lines)) ⊎ (result ≡ 8) }
 
     // 2, exactly, but where its line can't be written.
     ensures words { result ≡ 2 → IsApply (map string_bytes words.now) → ⊥ }

@@ -35,6 +35,21 @@ fn scripts_are_answered(rt: HostRuntime) -> Result<(), Fail> {
             "done node 1 at 1\nrefused PointBlocked at 1\ndone node 2 at 2\nnext 3 1 1 1 1\nnode 1 0 1 2\nnode 2 0 2 1\nface 0 -\n",
             1,
         ),
+        (
+            "a = addisonode 0 0 0\nb = addisonode 0 0 0\naddisonode $b 4 0\naddisonode $a 4 0\n",
+            "done node 1 at 1\nrefused PointBlocked at 1\nrefused Unbound\nrefused NoFace at 1\nnext 2 1 1 1 1\nnode 1 0 0 0\nface 0 -\n",
+            1,
+        ),
+        (
+            "# corners\r\n\n \taddisonode\t-  3 4 \r\n  # the end",
+            "done node 1 at 1\nnext 2 1 1 1 1\nnode 1 0 3 4\nface 0 -\n",
+            0,
+        ),
+        (
+            "a,b,a = addisonode - 1 1\naddisonode $a 2 2\naddisonode $b 2 2\n",
+            "done node 1 at 1\nrefused Unbound\nrefused Unbound\nnext 2 1 1 1 1\nnode 1 0 1 1\nface 0 -\n",
+            1,
+        ),
     ];
     for (script, due, want) in rows {
         let mut source = MemSource::plain(alloc, script.as_bytes().to_vec(alloc)?);
@@ -52,18 +67,22 @@ fn bad_lines_are_named(rt: HostRuntime) -> Result<(), Fail> {
     let rows = [
         ("addisonode 0 1099511627777 0\n", "fault line 1\n"),
         ("addisonode 0 0 -1099511627777\n", "fault line 1\n"),
-        ("addisonode - 0 0\n\n", "fault line 2\n"),
-        ("addisonode - 0 0\n# a comment\n", "fault line 2\n"),
-        ("addisonode - 0 0\naddisonode - 1\n", "fault line 2\n"),
-        ("addisonode - -0 0\n", "fault line 1\n"),
+        (
+            "addisonode - 0 0\n# a comment\naddisonode - 0\n",
+            "fault line 3\n",
+        ),
+        ("\n\naddisonode - -0 0\n", "fault line 3\n"),
         ("addisonode - +1 0\n", "fault line 1\n"),
         ("addisonode - 01 0\n", "fault line 1\n"),
-        ("addisonode -  0 0\n", "fault line 1\n"),
-        ("addisonode - 0 0 \n", "fault line 1\n"),
         ("addisonode - 0 0 0\n", "fault line 1\n"),
         ("addisonode -1 0 0\n", "fault line 1\n"),
         ("addisonode 4294967296 0 0\n", "fault line 1\n"),
-        ("addisonode - 0 0\r\n", "fault line 1\n"),
+        ("addisonode - 0\r 0\n", "fault line 1\n"),
+        ("addisonode - 0 0\r", "fault line 1\n"),
+        ("= addisonode - 0 0\n", "fault line 1\n"),
+        ("a= addisonode - 0 0\n", "fault line 1\n"),
+        ("addisonode $ 0 0\n", "fault line 1\n"),
+        ("editor 1\naddisonode - 0 0\n", "fault line 1\n"),
         ("moveisonode 1 0 0\n", "fault line 1\n"),
     ];
     for (script, due) in rows {
@@ -112,7 +131,7 @@ fn faults_end_a_run(rt: HostRuntime) -> Result<(), Fail> {
 fn a_source_has_its_limit(rt: HostRuntime) -> Result<(), Fail> {
     let alloc = rt.alloc();
     let longest = 1 << 24;
-    for (more, due, want) in [(0, "fault line 1\n", 3), (1, "fault long\n", 9)] {
+    for (more, due, want) in [(0, "next 1 1 1 1 1\nface 0 -\n", 0), (1, "fault long\n", 9)] {
         let bytes = vec![in alloc; b'\n'; longest + more]?;
         let mut source = MemSource::plain(alloc, bytes);
         let mut sink = MemSink::plain(alloc);

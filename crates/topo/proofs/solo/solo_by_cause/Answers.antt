@@ -1,17 +1,13 @@
-use Rattle.std.proofs.Common.{◌≤◌, ℕ, List, Err, IsTrue, ap, sym, subst, length}
-use Rattle.std.specs.List.{list_all}
-use Rattle.topo_base.specs.declared.edit.Edit.{Edit}
-use Rattle.topo_model.specs.Script.{IsScript, IsFirstBad, can_spell, lines_of}
+use Rattle.std.proofs.Common.{◌≤◌, ℕ, List, Err, ap, subst, length}
+use Rattle.topo_model.specs.Script.{IsScript, IsFirstBad, lines_of, edit_lines}
 use Rattle.topo_model.proofs.Scripts.{script_spelled}
-use Rattle.topo.specs.Endings.{SinkView, ran, bad_line, max_source, RunsScript}
+use Rattle.topo.specs.Endings.{SinkView, ran, bad_line, max_source}
 use Rattle.topo.proofs.Causes.{whole_at}
 use Rattle.topo.proofs.solo.solo_by_cause.Goals as goal
 
 pub end_with_script-requires-clause-good : goal.end_with_script-requires-clause-good
 end_with_script-requires-clause-good g c =
-    let es = c.in-Ok-read_script.script.items in
-    subst (λ (xs : List Edit). IsTrue (list_all can_spell xs)) (sym c.deref-in-Ok-read_script.ensures.value)
-    (script_spelled (lines_of c.deref.result.now) es c.in-Ok-read_script.ensures.script)
+    script_spelled (edit_lines (lines_of c.deref.result.now)) c.in-Ok-read_script.script.items c.in-Ok-read_script.ensures.script
 
 pub returns-in-Ok-read_script : goal.returns-in-Ok-read_script
 returns-in-Ok-read_script g c =
@@ -28,7 +24,7 @@ returns-in-Ok-read_script g c =
       ended = c.in-Ok.ensures.end;
       calm = c.in-Ok.ensures.kept;
     })
-    (subst (λ (xs : List Edit). RunsScript xs old new c.end_with_script.result) c.deref-in-Ok-read_script.ensures.value c.end_with_script.ensures)
+    c.end_with_script.ensures
 
 pub returns : goal.returns
 returns g c =
