@@ -6,7 +6,7 @@ work=$(mktemp -d)
 trap 'rm -rf "$work"' EXIT
 "$top/topo" apply < /dev/null > /dev/null
 awk 'BEGIN { for (i = 0; i < 500000; i++) printf "addisonode - 431%06d 56780%04d\n", i, i % 10000; print "bad" }' > "$work/plain"
-awk 'BEGIN { for (i = 0; i < 370000; i++) printf "stone%d = addisonode $yard 431%06d 567800000\n", i % 1000, i; print "bad" }' > "$work/names"
+awk 'BEGIN { for (i = 0; i < 330000; i++) printf "stone%d = addisonode $yard 431%06d 567800000\n", i % 1000, i; print "bad" }' > "$work/names"
 awk 'BEGIN { for (i = 0; i < 250000; i++) print "# this line is a comment, and is skipped by the program alone"; print "bad" }' > "$work/comments"
 for script in plain names comments; do
     bytes=$(stat -c %s "$work/$script")
