@@ -3,4 +3,5 @@ pub mod Joining
 pub mod Links
 pub mod LinesMeeting
 pub mod Splitting
+pub mod Tested
 pub mod Vertices

@@ -8,6 +8,8 @@
 
 mod joins;
 mod meetings;
+mod own_ends;
+mod points;
 mod proper;
 mod simple;
 mod splits;
@@ -16,7 +18,9 @@ mod tests;
 
 pub use joins::join;
 pub use meetings::lines_meet;
-pub use proper::is_proper;
+pub use own_ends::meets_at_own_ends;
+pub use points::{is_inside_line, on_line};
+pub use proper::{first_of, is_proper, is_same_point, last_of};
 pub use simple::is_simple;
 pub use splits::split_at;
 pub use topo_base::Meeting;
