@@ -1,0 +1,142 @@
+-- The row writes of the edits of isolated edges.
+use Rattle.std.proofs.Common.{◌≡◌, ◌≢◌, ℕ, ◌+◌, ◌<◌, ◌^◌, ◌==◌, ◌&&◌, ◌||◌, List, [], ◌∷◌, refl, sym, ap, ◌∙◌, subst, Option, Some, None, Ok, IsTrue, Bool, true, false, not, eqb, eqb-true, eq-eqb, map, unwrap_or, ⊎_elim}
+use Rattle.std.specs.List.{list_any, flat_map, Contains}
+use Rattle.std.specs.Option.{option_eq}
+use Rattle.std.proofs.lemmas.Bool.{or_right}
+use Rattle.topo_base.specs.Point.{Point}
+use Rattle.topo_base.specs.declared.rows.NodeRow.{NodeRow}
+use Rattle.topo_base.specs.declared.rows.EdgeRow.{EdgeRow}
+use Rattle.topo_base.specs.declared.edit.Edit.TheVariants.{AddIsoEdge, RemoveIsoEdge}
+use Rattle.topo_base.specs.declared.write.RowId.TheVariants.{Old}
+use Rattle.topo_base.specs.declared.write.RowWrite.{RowWrite}
+use Rattle.topo_base.specs.declared.write.RowWrite.TheVariants.{AddEdge, DropEdge, SetContaining}
+use Rattle.topo_model.specs.Blocked.{is_line_blocked, goes_between}
+use Rattle.topo_model.specs.Drawing.{Drawing, Edge, node_id_of, edge_id_of, node_at, edge_at, is_end_of, is_isolated, has_only}
+use Rattle.topo_model.specs.HalfEdge.{both_ways}
+use Rattle.topo_model.specs.IsoEdits.{with_edge, put_in_face, is_in_feature, is_isolated_edge}
+use Rattle.topo_model.specs.Line.{is_simple}
+use Rattle.topo_model.specs.Outcome.{the_edge}
+use Rattle.read_set.specs.Plans.{IsPlanFor}
+use Rattle.topo_model.specs.Relations.{edge_type}
+use Rattle.topo_model.specs.Rows.{has_row, without_row}
+use Rattle.topo_model.specs.Step.{step}
+use Rattle.topo_model.specs.Tables.{tables_of, edge_row, face_row}
+use Rattle.topo_model.specs.Writable.{has_face_row}
+use Rattle.topo_model.specs.Writes.{edge_row_id}
+use Rattle.iso_edits.proofs.IsolatedLinks.{rows_comes, rows_goes}
+use Rattle.iso_edits.proofs.IsolatedTests.{found_id, found_there, has_row-change}
+use Rattle.topo_model.proofs.ListTests.{contains_cases, contains_none}
+use Rattle.topo_model.proofs.Members.{contains-found, pairwise-same, ids_differ}
+use Rattle.topo_model.proofs.Ordering.{InOrder}
+
+-- no edge where a node is isolated
+none_there : (b : Bool) → not b ≡ true → b ≡ false
+none_there true h = absurd cc
+none_there false h = refl
+
+-- a node that was found is there, also after other nodes' containing faces have changed
+node_there : (S : Drawing) (n : ℕ) (node : NodeRow) → node_at S n ≡ Some node → IsTrue (has_row node_id_of S.nodes node.node_id)
+node_there S n node found =
+    subst (λ k. IsTrue (has_row node_id_of S.nodes k)) (sym (found_id node_id_of S.nodes n node found)) (found_there node_id_of S.nodes n node found)
+
+still_there : (nodes : List NodeRow) (face : Option ℕ) (m n : ℕ) → IsTrue (has_row node_id_of nodes n) → IsTrue (has_row node_id_of (put_in_face face m nodes) n)
+still_there nodes face m n there = has_row-change node_id_of nodes m n (λ row. record row { containing_face = face }) (λ r. refl) ∙ there
+
+-- the edge that comes, and its writes
+abbrev pub coming_edge : Drawing → NodeRow → NodeRow → List Point → Edge
+coming_edge S a b line = record { edge_id = S.next_ids.edge; start_node = a.node_id; end_node = b.node_id; left_face = 0; right_face = 0; geom = line }
+
+abbrev pub edge_writes : ℕ → ℕ → ℕ → List Point → List RowWrite
+edge_writes edge a b line =
+    AddEdge (Old edge) (Old a) (Old b) (record { edge = Old edge; forward = false }) (record { edge = Old edge; forward = true }) (Old 0) (Old 0) line
+    ∷ SetContaining (Old b) None ∷ SetContaining (Old a) None ∷ []
+
+pub edge_comes : (S : Drawing) (start end : ℕ) (a b : NodeRow) (line : List Point) → S.faces ≡ 0 ∷ [] → S.next_ids.edge + 1 < 2 ^ 32
+    → node_at S start ≡ Some a → node_at S end ≡ Some b → eqb a.node_id b.node_id ≡ false → is_isolated S a.node_id ≡ true → is_isolated S b.node_id ≡ true
+    → step S (AddIsoEdge start end line) ≡ Ok (record { drawing = with_edge S a b line 0; ids = the_edge S.next_ids.edge ∷ [] })
+    → IsPlanFor S (AddIsoEdge start end line) (edge_writes S.next_ids.edge a.node_id b.node_id line) (the_edge S.next_ids.edge ∷ [])
+edge_comes S start end a b line one fits found_a found_b differ lone_a lone_b done =
+    let e = coming_edge S a b line in
+    let there_a = node_there S start a found_a in
+    let there_b = node_there S end b found_b in
+    let face : IsTrue (has_face_row (tables_of S) 0) = rw one refl in
+    let itself = or_right (has_row edge_row_id (tables_of S).edges S.next_ids.edge) (eqb S.next_ids.edge S.next_ids.edge) (eq-eqb S.next_ids.edge S.next_ids.edge refl) in
+    let edges = rows_comes S.edges e (none_there (list_any (is_end_of a.node_id) S.edges) lone_a) (none_there (list_any (is_end_of b.node_id) S.edges) lone_b) differ in
+    let faces : map (face_row S) S.faces ≡ map (face_row (with_edge S a b line 0)) S.faces = rw one refl in
+    record {
+      done = record { drawing = with_edge S a b line 0; ids = the_edge S.next_ids.edge ∷ [] };
+      accepted = done;
+      named = refl;
+      writable = (((refl, fits), there_a, there_b, itself, itself, face, face), ((there_b, tt), ((still_there S.nodes None b.node_id a.node_id there_a, tt), tt)));
+      tables = λ i. record (tables_of (with_edge S a b line 0)) { edges = edges i; faces = faces i };
+    }
+
+-- ---- the edge that goes
+none_of : {X : Type 0} (p : X → Bool) (xs : List X) (x : X) → list_any p xs ≡ false → Contains xs x → p x ≡ false
+none_of p [] x h c = absurd (contains_none x c)
+none_of p (y ∷ xs) x h c =
+    let both = neither (p y) (list_any p xs) h in
+    ⊎_elim (λ (e : y ≡ x). subst (λ z. p z ≡ false) e both.0) (λ (k : Contains xs x). none_of p xs x both.1 k) (contains_cases x y xs c)
+  where
+    neither : (a b : Bool) → (a || b) ≡ false → (a ≡ false) × (b ≡ false)
+    neither true b g = absurd cc
+    neither false b g = (refl, g)
+
+only_end : (S : Drawing) (n id : ℕ) (x : Edge) → has_only S n id id ≡ true → Contains S.edges x → eqb x.edge_id id ≡ false → is_end_of n x ≡ false
+only_end S n id x only c other = end_only (is_end_of n x) (eqb x.edge_id id) other
+    (none_of (λ (y : Edge). is_end_of n y && not (y.edge_id == id) && not (y.edge_id == id)) S.edges x (none_there (list_any (λ (y : Edge). is_end_of n y && not (y.edge_id == id) && not (y.edge_id == id)) S.edges) only) c)
+  where
+    end_only : (b same : Bool) → same ≡ false → (b && not same && not same) ≡ false → b ≡ false
+    end_only false same e h = refl
+    end_only true true e h = absurd cc
+    end_only true false e h = h
+
+-- the edge with its id is the only one
+one_of_id : (S : Drawing) (e y : Edge) → InOrder edge_id_of 0 S.next_ids.edge S.edges → Contains S.edges e → Contains S.edges y → eqb y.edge_id e.edge_id ≡ true → y ≡ e
+one_of_id S e y ordered ce cy same =
+    let id : y.edge_id ≡ e.edge_id = eqb-true y.edge_id e.edge_id same in
+    pairwise-same (λ (r s : Edge). edge_id_of r ≢ edge_id_of s) S.edges y e (ids_differ edge_id_of 0 S.next_ids.edge S.edges ordered) cy ce (λ f. f id) (λ f. f (sym id))
+
+abbrev pub gone_writes : ℕ → ℕ → ℕ → List RowWrite
+gone_writes edge a b = DropEdge (Old edge) ∷ SetContaining (Old b) (Some (Old 0)) ∷ SetContaining (Old a) (Some (Old 0)) ∷ []
+
+has_mapped : (f : Edge → EdgeRow) (edges : List Edge) (n : ℕ) → ((x : Edge) → edge_row_id (f x) ≡ x.edge_id) → has_row edge_row_id (map f edges) n ≡ has_row edge_id_of edges n
+has_mapped f [] n keeps = refl
+has_mapped f (x ∷ edges) n keeps = ap (λ k. eqb k n || has_row edge_row_id (map f edges) n) (keeps x) ∙ ap (λ b. eqb x.edge_id n || b) (has_mapped f edges n keeps)
+
+abbrev pub without_edge : Drawing → Edge → ℕ → Drawing
+without_edge S e face =
+    record S {
+      nodes = put_in_face (Some face) e.start_node (put_in_face (Some face) e.end_node S.nodes);
+      edges = without_row edge_id_of S.edges e.edge_id;
+    }
+
+pub edge_goes : (S : Drawing) (n : ℕ) (e : Edge) → S.faces ≡ 0 ∷ [] → InOrder edge_id_of 0 S.next_ids.edge S.edges → edge_at S n ≡ Some e
+    → IsTrue (has_row node_id_of S.nodes e.start_node) → IsTrue (has_row node_id_of S.nodes e.end_node) → has_only S e.start_node e.edge_id e.edge_id ≡ true → has_only S e.end_node e.edge_id e.edge_id ≡ true
+    → step S (RemoveIsoEdge n) ≡ Ok (record { drawing = without_edge S e 0; ids = the_edge e.edge_id ∷ [] })
+    → IsPlanFor S (RemoveIsoEdge n) (gone_writes e.edge_id e.start_node e.end_node) (the_edge e.edge_id ∷ [])
+edge_goes S n e one ordered found there_a there_b only_a only_b done =
+    let here = (contains-found (λ (x : Edge). edge_id_of x == n) e S.edges found).0 in
+    let face : IsTrue (has_face_row (tables_of S) 0) = rw one refl in
+    let there : IsTrue (has_row edge_id_of S.edges e.edge_id) = subst (λ k. IsTrue (has_row edge_id_of S.edges k)) (sym (found_id edge_id_of S.edges n e found)) (found_there edge_id_of S.edges n e found) in
+    let edges = rows_goes S.edges e (λ y c same. one_of_id S e y ordered here c same) (λ x c other. (only_end S e.start_node e.edge_id x only_a c other, only_end S e.end_node e.edge_id x only_b c other)) in
+    let faces : map (face_row S) S.faces ≡ map (face_row (without_edge S e 0)) S.faces = rw one refl in
+    record {
+      done = record { drawing = without_edge S e 0; ids = the_edge e.edge_id ∷ [] };
+      accepted = done;
+      named = refl;
+      writable = (has_mapped (edge_row (flat_map both_ways S.edges)) S.edges e.edge_id (λ x. refl) ∙ there, ((there_b, face), ((still_there S.nodes (Some 0) e.end_node e.start_node there_a, face), tt)));
+      tables = λ i. record (tables_of (without_edge S e 0)) { edges = edges i; faces = faces i };
+    }
+
+-- ---- where no rule refuses, with face 0 alone
+pub edge_comes_where : (S : Drawing) (start end : ℕ) (a b : NodeRow) (line : List Point) → node_at S start ≡ Some a → node_at S end ≡ Some b → eqb a.node_id b.node_id ≡ false
+    → is_isolated S a.node_id ≡ true → is_isolated S b.node_id ≡ true → option_eq eqb a.containing_face b.containing_face ≡ true → goes_between a b line ≡ true → is_simple line ≡ true → is_line_blocked S line ≡ false
+    → unwrap_or a.containing_face 0 ≡ 0
+    → step S (AddIsoEdge start end line) ≡ Ok (record { drawing = with_edge S a b line 0; ids = the_edge S.next_ids.edge ∷ [] })
+edge_comes_where S start end a b line found_a found_b differ lone_a lone_b within ends simple free face =
+    rw (found_a, found_b, differ, lone_a, lone_b, within, ends, simple, free, face) refl
+
+pub edge_goes_where : (S : Drawing) (n : ℕ) (e : Edge) → edge_at S n ≡ Some e → is_isolated_edge S e ≡ true → is_in_feature S edge_type e.edge_id ≡ false → e.left_face ≡ 0
+    → step S (RemoveIsoEdge n) ≡ Ok (record { drawing = without_edge S e 0; ids = the_edge e.edge_id ∷ [] })
+edge_goes_where S n e found isolated free face = rw (found, isolated, free, face) refl

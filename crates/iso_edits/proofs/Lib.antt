@@ -1,0 +1,9 @@
+pub mod RowTests
+pub mod Answering
+pub mod OneFace
+pub mod OneFaceStays
+pub mod Kept
+pub mod IsolatedTests
+pub mod IsolatedNodes
+pub mod IsolatedLinks
+pub mod IsolatedEdges

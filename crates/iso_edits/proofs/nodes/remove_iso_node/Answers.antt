@@ -1,0 +1,32 @@
+use Rattle.std.proofs.Common.{refl, ◌≡◌, [], ◌∷◌, sym, ap, ◌∙◌, Some, false, true}
+use Rattle.topo_base.specs.declared.edit.Edit.TheVariants.{RemoveIsoNode}
+use Rattle.topo_base.specs.declared.rows.NodeRow.{NodeRow}
+use Rattle.topo_base.specs.declared.write.RowId.TheVariants.{Old}
+use Rattle.topo_base.specs.declared.write.RowWrite.TheVariants.{DropNode}
+use Rattle.topo_model.specs.Drawing.{node_at, is_isolated}
+use Rattle.topo_model.specs.IsoEdits.{is_in_feature}
+use Rattle.topo_model.specs.Outcome.{the_node}
+use Rattle.read_set.specs.Plans.{IsPlanFor}
+use Rattle.topo_model.specs.Relations.{node_type}
+use Rattle.topo_model.specs.Tables.{drawn}
+use Rattle.iso_edits.proofs.IsolatedNodes.{node_goes, node_goes_where}
+use Rattle.iso_edits.proofs.Answering.{served_by, answers_with, found_row}
+use Rattle.iso_edits.proofs.nodes.remove_iso_node.Goals as goal
+
+pub returns-clause-answer : goal.returns-clause-answer
+returns-clause-answer g c =
+    let S = drawn c.args.tables.now.rows in
+    let row : NodeRow = c.in-Some.row.now in
+    let k = c.node-2.inside.0 in
+    let id : k ≡ row.node_id = c.node-2.view_is in
+    let found : node_at S c.args.node ≡ Some row = found_row c.node.result c.in-Some.row (node_at S c.args.node) c.in-Some.is c.node.ensures.row in
+    let isolated : is_isolated S row.node_id ≡ true = sym c.is_isolated.ensures.test ∙ c.if-not-is_isolated.false in
+    let free : is_in_feature S node_type k ≡ false = sym c.is_in_feature.ensures.test ∙ c.if-is_in_feature.false in
+    let free' : is_in_feature S node_type row.node_id ≡ false = ap (is_in_feature S node_type) (sym id) ∙ free in
+    let plan : IsPlanFor S (RemoveIsoNode c.args.node) (DropNode (Old k) ∷ []) (the_node row.node_id ∷ []) =
+    rw id (node_goes S c.args.node row found (node_goes_where S c.args.node row found isolated free')) in
+    answers_with S (RemoveIsoNode c.args.node) (DropNode (Old k) ∷ []) (the_node row.node_id ∷ []) c.draft_of.result plan
+    c.draft_of.ensures.writes c.draft_of.ensures.ids c.draft_of.ensures.err
+
+pub returns-clause-served : goal.returns-clause-served
+returns-clause-served g c = served_by (DropNode (Old c.node-2.inside.0) ∷ []) c.draft_of.result refl c.draft_of.ensures.writes

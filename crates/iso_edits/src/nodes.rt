@@ -1,0 +1,121 @@
+// The edits of isolated nodes.
+ghost use Rattle.std.specs.Prelude.{◌≡◌, ◌+◌, ◌≤◌, nat_eq, IfOk, IsTrue};
+ghost use Rattle.std.specs.List.{list_all};
+ghost use Rattle.std.specs.Option.{option_eq};
+ghost use Rattle.topo_base.specs.declared.edit.Edit.{Edit};
+ghost use Rattle.topo_model.specs.Tables.{drawn};
+ghost use Rattle.topo_tables.specs.Room.{is_served};
+ghost use Rattle.iso_edits.specs.Drafts.{AnswersEdit};
+ghost use Rattle.iso_edits.specs.Ready.{IsReady};
+ghost use Rattle.iso_edits.specs.Work.{most_steps};
+
+use crate::conditions::{accepts_face, is_blocked, is_blocked_for, is_in_feature, is_isolated};
+use crate::draft::{Draft, DraftEnd, draft_of};
+use std::alloc::Global;
+use std::sync::ledger::Ledger;
+use topo_base::{Element, FaceId, Grid, NodeId, RowId, RowWrite, Rule, Steps};
+use topo_tables::Tables;
+
+/// The type of nodes among the elements of a primitive layer.
+const NODE_TYPE: u32 = 1;
+
+/// An isolated node comes in the face that its point is in, by the rules of ST_AddIsoNode: NoFace,
+/// PointBlocked.
+pub fn add_iso_node<L: Ledger>(
+    alloc: Global,
+    tables: &Tables,
+    face: Option<FaceId>,
+    geom: Grid,
+    steps: &mut Steps<L>,
+) -> Result<Draft, DraftEnd>
+    requires { IsReady (drawn tables.now.rows) }
+    ensures answer { AnswersEdit (drawn tables.now.rows) (Edit.AddIsoNode face geom) result }
+    ensures served { IfOk result (λ d. IsTrue (list_all is_served d.writes)) }
+    ensures counted { steps.new ≤ steps.old + most_steps tables.now.rows (Edit.AddIsoNode face geom) }
+{
+    if !accepts_face(tables, face) {
+        return Err(DraftEnd::Refused(Rule::NoFace));
+    }
+    if is_blocked(tables, geom, steps) {
+        return Err(DraftEnd::Refused(Rule::PointBlocked));
+    }
+    let node = tables.counters().node;
+    let one = RowWrite::AddNode {
+        node: RowId::Old(node),
+        face: Some(RowId::Old(0)),
+        geom,
+    };
+    draft_of(alloc, one, Element::Node(NodeId(node)))
+}
+
+/// An isolated node moves within its face, by the rules of ST_MoveIsoNode: NoNode, NotIsolated,
+/// PointBlocked, NotInFace.
+pub fn move_iso_node<L: Ledger>(
+    alloc: Global,
+    tables: &Tables,
+    node: NodeId,
+    geom: Grid,
+    steps: &mut Steps<L>,
+) -> Result<Draft, DraftEnd>
+    requires { IsReady (drawn tables.now.rows) }
+    ensures answer { AnswersEdit (drawn tables.now.rows) (Edit.MoveIsoNode node geom) result }
+    ensures served { IfOk result (λ d. IsTrue (list_all is_served d.writes)) }
+    ensures counted { steps.new ≤ steps.old + most_steps tables.now.rows (Edit.MoveIsoNode node geom) }
+{
+    let Some(row) = tables.node(node, steps) else {
+        return Err(DraftEnd::Refused(Rule::NoNode));
+    };
+    let (node, face) = (row.node_id, row.containing_face);
+    if !is_isolated(tables, node, steps) {
+        return Err(DraftEnd::Refused(Rule::NotIsolated));
+    }
+    if is_blocked_for(tables, node, geom, steps) {
+        return Err(DraftEnd::Refused(Rule::PointBlocked));
+    }
+    if !is_universe(face) {
+        return Err(DraftEnd::Refused(Rule::NotInFace));
+    }
+    let one = RowWrite::SetPoint {
+        node: RowId::Old(node.0),
+        geom,
+    };
+    draft_of(alloc, one, Element::Node(node))
+}
+
+/// An isolated node goes, by the rules of ST_RemoveIsoNode: NoNode, NotIsolated; and NodeInFeature,
+/// which is our own.
+pub fn remove_iso_node<L: Ledger>(
+    alloc: Global,
+    tables: &Tables,
+    node: NodeId,
+    steps: &mut Steps<L>,
+) -> Result<Draft, DraftEnd>
+    ensures answer { AnswersEdit (drawn tables.now.rows) (Edit.RemoveIsoNode node) result }
+    ensures served { IfOk result (λ d. IsTrue (list_all is_served d.writes)) }
+    ensures counted { steps.new ≤ steps.old + most_steps tables.now.rows (Edit.RemoveIsoNode node) }
+{
+    let Some(row) = tables.node(node, steps) else {
+        return Err(DraftEnd::Refused(Rule::NoNode));
+    };
+    let node = row.node_id;
+    if !is_isolated(tables, node, steps) {
+        return Err(DraftEnd::Refused(Rule::NotIsolated));
+    }
+    if is_in_feature(tables, NODE_TYPE, node.0, steps) {
+        return Err(DraftEnd::Refused(Rule::NodeInFeature));
+    }
+    let one = RowWrite::DropNode {
+        node: RowId::Old(node.0),
+    };
+    draft_of(alloc, one, Element::Node(node))
+}
+
+/// Whether this is face 0.
+fn is_universe(face: Option<FaceId>) -> bool
+    ensures { result ≡ option_eq nat_eq face (Some 0) }
+{
+    match face {
+        None => false,
+        Some(face) => face.0 == 0,
+    }
+}

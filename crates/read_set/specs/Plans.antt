@@ -1,0 +1,19 @@
+-- What a plan promises: row writes and reply ids that are right for an edit.
+use Rattle.std.specs.Prelude.{◌≡◌, List, Ok}
+use Rattle.topo_base.specs.declared.edit.Edit.{Edit}
+use Rattle.topo_base.specs.declared.element.Element.{Element}
+use Rattle.topo_base.specs.declared.write.RowWrite.{RowWrite}
+use Rattle.topo_model.specs.Drawing.{Drawing}
+use Rattle.topo_model.specs.Outcome.{Accepted}
+use Rattle.topo_model.specs.Step.{step}
+use Rattle.topo_model.specs.Tables.{tables_of}
+use Rattle.topo_model.specs.Writes.{all_written}
+use Rattle.topo_model.specs.Writable.{CanWriteAll}
+
+-- the edit is accepted with these ids; on the drawing's tables the writes may be made in order, and they leave those of the drawing after
+pub record IsPlanFor (S : Drawing) (e : Edit) (ws : List RowWrite) (ids : List Element) : Type 0 where
+  pub done : Accepted
+  pub accepted : step S e ≡ Ok done
+  pub named : done.ids ≡ ids
+  pub writable : CanWriteAll S.next_ids (tables_of S) ws
+  pub tables : all_written S.next_ids (tables_of S) ws ≡ tables_of done.drawing
