@@ -1,5 +1,5 @@
 -- The words of edits and lines.
-use Rattle.std.proofs.Common.{◌≡◌, ℕ, ◌&&◌, List, [], ◌∷◌, ◌++◌, IsTrue, ap, subst}
+use Rattle.std.proofs.Common.{◌≡◌, ℕ, ◌&&◌, List, [], ◌∷◌, ◌++◌, IsTrue, sym, ap, subst, ◌∙◌}
 use Rattle.std.specs.Prelude.{codes, nat_le, length}
 use Rattle.std.specs.List.{list_all}
 use Rattle.std.proofs.lemmas.Bool.{and_parts, and_from}
@@ -38,6 +38,30 @@ not_binding word words (CreateTopoGeom l xs) good is = id_not_equals l (and_part
 not_binding word words (AddElement t id type) good is = id_not_equals t (and_parts (is_id_word t) (is_id_word id) (and_parts (is_id_word t && is_id_word id) (is_id_word type) good).0).0 cc
 not_binding word words (RemElement t id type) good is = id_not_equals t (and_parts (is_id_word t) (is_id_word id) (and_parts (is_id_word t && is_id_word id) (is_id_word type) good).0).0 cc
 not_binding word words (DropFeature t) good is = id_not_equals t good cc
+
+-- an edit has words
+words_some : (e : NamedEdit) → [] ≡ named_words e → ⊥
+words_some (AddIsoNode face p) is = cc
+words_some (MoveIsoNode n p) is = cc
+words_some (RemoveIsoNode n) is = cc
+words_some (AddIsoEdge a b line) is = cc
+words_some (RemoveIsoEdge e) is = cc
+words_some (AddEdgeModFace a b line) is = cc
+words_some (AddEdgeNewFaces a b line) is = cc
+words_some (RemEdgeModFace e) is = cc
+words_some (RemEdgeNewFace e) is = cc
+words_some (ModEdgeSplit e p) is = cc
+words_some (NewEdgesSplit e p) is = cc
+words_some (ModEdgeHeal e f) is = cc
+words_some (NewEdgeHeal e f) is = cc
+words_some (AddLayer name kind child) is = cc
+words_some (CreateTopoGeom l xs) is = cc
+words_some (AddElement t id type) is = cc
+words_some (RemElement t id type) is = cc
+words_some (DropFeature t) is = cc
+
+pub no_edit : (words : List (List ℕ)) (e : NamedEdit) → words ≡ [] → IsEdit words e → ⊥
+no_edit words e none h = words_some e (sym none ∙ h.spelled)
 
 -- ---- lines
 -- the edit of a line

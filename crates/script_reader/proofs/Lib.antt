@@ -1,5 +1,6 @@
 pub mod LineEnds
 pub mod WordSplits
+pub mod VertexWords
 pub mod IdWords
 pub mod NameSplits
 pub mod EditWords

@@ -1,7 +1,6 @@
 -- A text that is parted: what stands before the first byte that parts it, and behind it.
 use Rattle.std.specs.Prelude.{◌≡◌, ℕ, Bool, not, ◌==◌, IsTrue, List, [], ◌∷◌, ◌++◌}
-use Rattle.std.specs.List.{list_all}
-use Rattle.topo_model.specs.Script.{is_line_feed, is_blank}
+use Rattle.topo_model.specs.Script.{is_line_feed, is_blank, is_whole}
 use Rattle.script_reader.specs.declared.parting.Separator.{Separator}
 use Rattle.script_reader.specs.declared.parting.Separator.TheVariants.{LineFeed, Blank, Comma}
 
@@ -17,7 +16,7 @@ parts Comma = is_comma
 
 -- no byte parts the text
 abbrev pub IsWhole : (ℕ → Bool) → List ℕ → Type 0
-IsWhole parting text = IsTrue (list_all (λ c. not (parting c)) text)
+IsWhole parting text = IsTrue (is_whole parting text)
 
 -- the text is a first part, a byte that parts, and the rest
 pub record IsPart (parting : ℕ → Bool) (text front rest : List ℕ) : Type 0 where

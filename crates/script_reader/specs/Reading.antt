@@ -1,5 +1,5 @@
 -- What the words of a line spell.
-use Rattle.std.specs.Prelude.{◌≡◌, ℕ, false, ◌&&◌, IsTrue, List, [], ◌∷◌, Option, Some, None, codes}
+use Rattle.std.specs.Prelude.{◌≡◌, ℕ, ◌≤◌, length, false, ◌&&◌, IsTrue, List, [], ◌∷◌, Option, Some, None, codes}
 use Rattle.std.specs.List.{list_all}
 use Rattle.std.specs.Fmt.{signed_decimal}
 use Rattle.topo_base.specs.Names.{is_name}
@@ -7,8 +7,10 @@ use Rattle.topo_base.specs.Point.{Point, IsOnGrid}
 use Rattle.topo_base.specs.ScriptLines.{ScriptLine}
 use Rattle.topo_base.specs.declared.named.IdWord.{IdWord}
 use Rattle.topo_base.specs.declared.named.NamedEdit.{NamedEdit}
-use Rattle.topo_model.specs.NamedRange.{is_id_word, is_option_id_word, is_named_edit, is_built, can_spell}
+use Rattle.topo_model.specs.InRange.{is_grid_point}
+use Rattle.topo_model.specs.NamedRange.{is_id_word, is_option_id_word, is_new_line, is_named_edit, is_built, can_spell}
 use Rattle.topo_model.specs.NamedWords.{id_word, option_id_word, named_words, names_words, script_words}
+use Rattle.topo_model.specs.Words.{line_words}
 use Rattle.topo_model.specs.Script.{IsLine, IsGood, is_skipped}
 use Rattle.script_reader.specs.declared.read.Reading.{Reading}
 use Rattle.script_reader.specs.declared.read.Reading.TheVariants.{Skipped, Edit, Bad}
@@ -33,6 +35,17 @@ pub record IsPoint (x y : List ℕ) (p : Point) : Type 0 where
   pub grid : IsOnGrid p
   pub x_is : x ≡ signed_decimal p.x
   pub y_is : y ≡ signed_decimal p.y
+
+-- the words are the coordinates of at most 4096 grid points
+pub record AreVertices (words : List (List ℕ)) (vertices : List Point) : Type 0 where
+  pub good : IsTrue (list_all is_grid_point vertices)
+  pub few : length vertices ≤ 4096
+  pub spelled : words ≡ line_words vertices
+
+-- the words are the vertices of a line that an edit may have
+pub record IsNewLine (words : List (List ℕ)) (line : List Point) : Type 0 where
+  pub good : IsTrue (is_new_line line)
+  pub spelled : words ≡ line_words line
 
 -- the word and = are those of these names
 pub record AreNames (word : List ℕ) (names : List (List ℕ)) : Type 0 where

@@ -18,6 +18,7 @@ mod read;
 mod resolving;
 #[cfg(test)]
 mod tests;
+mod vertices;
 mod words;
 
 pub use bindings::Bindings;

@@ -71,13 +71,82 @@ fn bad_lines_are_named(rt: HostRuntime) -> Result<(), Fail> {
     Ok(())
 }
 
-#[test]
-fn a_line_has_at_most_4096_vertices(rt: HostRuntime) -> Result<(), Fail> {
-    let mut script = b"addisonode - 0 0\naddisoedge 1 1".to_vec(rt.alloc())?;
-    for _ in 0..4097 {
+/// A script of two lines, of which the second is an edge of so many vertices.
+fn edge_script(alloc: Global, vertices: usize) -> Result<Vec<u8>, Fail> {
+    let mut script = b"addisonode - 0 0\naddisoedge 1 1".to_vec(alloc)?;
+    for _ in 0..vertices {
         script.extend_from_slice(b" 0 0")?;
     }
-    is_bad(&rt, rt.alloc(), &script, 2);
+    Ok(script)
+}
+
+#[test]
+fn a_line_has_at_most_4096_vertices(rt: HostRuntime) -> Result<(), Fail> {
+    let longest = edge_script(rt.alloc(), 4096)?;
+    is_read(&rt, rt.alloc(), &longest, 2, 0);
+    let longer = edge_script(rt.alloc(), 4097)?;
+    is_bad(&rt, rt.alloc(), &longer, 2);
+    Ok(())
+}
+
+#[test]
+fn isolated_edits_are_read(rt: HostRuntime) -> Result<(), Fail> {
+    let rows = [
+        "moveisonode 1 0 0",
+        "moveisonode $yard -1099511627776 1099511627776",
+        "removeisonode 4294967295",
+        "removeisonode $yard",
+        "addisoedge $a $b 0 0 4 0",
+        "addisoedge 1 $b\t0 0  4 0 4 4 ",
+        "addisoedge 0 0 0 0 0 0",
+        "removeisoedge 7",
+        "removeisoedge $fence",
+    ];
+    for line in rows {
+        is_read(&rt, rt.alloc(), line.as_bytes(), 1, 0);
+    }
+    is_read(
+        &rt,
+        rt.alloc(),
+        b"fence = addisoedge $a $b 0 0 4 0\nremoveisoedge $fence".as_slice(),
+        2,
+        1,
+    );
+    Ok(())
+}
+
+#[test]
+fn bad_isolated_edits_are_named(rt: HostRuntime) -> Result<(), Fail> {
+    let rows = [
+        "moveisonode",
+        "moveisonode 1 0",
+        "moveisonode 1 0 0 0",
+        "moveisonode - 0 0",
+        "moveisonode 1 1099511627777 0",
+        "removeisonode",
+        "removeisonode -",
+        "removeisonode 1 2",
+        "removeisonode 4294967296",
+        "addisoedge",
+        "addisoedge 1",
+        "addisoedge 1 2",
+        "addisoedge 1 2 0 0",
+        "addisoedge 1 2 0 0 4",
+        "addisoedge 1 2 0 0 4 0 8",
+        "addisoedge $a 0 0 4 0",
+        "addisoedge - 2 0 0 4 0",
+        "addisoedge 1 $ 0 0 4 0",
+        "addisoedge 1 2 0 0 1099511627777 0",
+        "addisoedge 1 2 0 0 4 -1099511627777",
+        "addisoedge 1 2 0 0 4 a",
+        "addisoedge 1 2 0 0 4 00",
+        "removeisoedge",
+        "removeisoedge $B",
+        "removeisoedge 1 2",
+    ];
+    for line in rows {
+        is_bad(&rt, rt.alloc(), line.as_bytes(), 1);
+    }
     Ok(())
 }
 

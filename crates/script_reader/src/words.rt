@@ -34,6 +34,20 @@ pub fn first_word(line: &[u8]) -> Option<(&[u8], &[u8])>
     }
 }
 
+/// The first two words of a line and what stands behind them, or `None` where there are fewer. Takes no
+/// memory.
+pub fn first_two_words(line: &[u8]) -> Option<(&[u8], &[u8], &[u8])>
+    ensures { MatchOption result ((a b : List ℕ) (ws : List (List ℕ)) → words_of line.now ≡ a ∷ b ∷ ws → ⊥) (λ p. words_of line.now ≡ p.0.now ∷ p.1.now ∷ words_of p.2.now) }
+{
+    let Some((a, rest)) = first_word(line) else {
+        return None;
+    };
+    let Some((b, rest)) = first_word(rest) else {
+        return None;
+    };
+    Some((a, b, rest))
+}
+
 /// The one word of a line that has one.
 pub fn one_word(line: &[u8]) -> Option<&[u8]>
     ensures { MatchOption result ((a : List ℕ) → words_of line.now ≡ a ∷ [] → ⊥) (λ a. words_of line.now ≡ a.now ∷ []) }

@@ -3,9 +3,9 @@ use Rattle.std.proofs.Common.{◌≡◌, ℕ, ◌<◌, Bool, true, false, cond, 
 use Rattle.std.specs.List.{list_all, join_with_byte}
 use Rattle.std.proofs.lemmas.Bool.{and_parts, and_from, not-true}
 use Rattle.std.proofs.lemmas.List.Folds.{list_all-append}
-use Rattle.topo_model.specs.Script.{pieces, begins_with_feed, without_returns, is_line_feed, lines_of, is_blank, without_empty, words_of}
+use Rattle.topo_model.specs.Script.{pieces, is_whole, begins_with_feed, without_returns, is_line_feed, lines_of, is_blank, without_empty, words_of}
 use Rattle.topo_model.specs.Words.{line_of}
-use Rattle.topo_model.proofs.Pieces.{is_whole, pieces_front}
+use Rattle.topo_model.proofs.Pieces.{pieces_front}
 use Rattle.topo_model.proofs.NameWords.{pieces_joined, all_weaker}
 
 -- a word isn't empty, and each of its bytes is greater than a space, so that it neither parts words nor ends a line

@@ -4,8 +4,8 @@ use Rattle.std.specs.List.{list_all, join_with_byte}
 use Rattle.std.specs.Prelude.{nat_le, length}
 use Rattle.std.proofs.lemmas.Bool.{and_parts, and_from, true≢false}
 use Rattle.topo_base.specs.Names.{is_letter, is_name_byte, is_name}
-use Rattle.topo_model.specs.Script.{pieces}
-use Rattle.topo_model.proofs.Pieces.{is_whole, pieces_front, pieces_last}
+use Rattle.topo_model.specs.Script.{pieces, is_whole}
+use Rattle.topo_model.proofs.Pieces.{pieces_front, pieces_last}
 
 -- words with a byte between two of them, none of which has that byte, come apart again
 pub pieces_joined : (parts : ℕ → Bool) (c : ℕ) (w : List ℕ) (ws : List (List ℕ)) → parts c ≡ true → IsTrue (list_all (is_whole parts) (w ∷ ws)) → pieces parts ([] ∷ []) (join_with_byte c (w ∷ ws)) ≡ w ∷ ws

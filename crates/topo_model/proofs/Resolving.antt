@@ -20,19 +20,19 @@ use Rattle.topo_model.specs.Bindings.{Names, id_of, with_one, with_two, with_thr
 use Rattle.topo_model.specs.ScriptRun.{onto_edits, edits_given}
 
 -- what is made of ids has a quality where all that can be made has it
-one_is : {A : Type 0} (P : A → Bool) (o : Option ℕ) (f : ℕ → A) (d : A) → ((n : ℕ) → IsTrue (P (f n))) → with_one o f ≡ Some d → IsTrue (P d)
+pub one_is : {A : Type 0} (P : A → Bool) (o : Option ℕ) (f : ℕ → A) (d : A) → ((n : ℕ) → IsTrue (P (f n))) → with_one o f ≡ Some d → IsTrue (P d)
 one_is P None f d all e = absurd cc
 one_is P (Some n) f d all e = let same : f n ≡ d = cc in subst (λ x. IsTrue (P x)) same (all n)
 
-two_is : {A : Type 0} (P : A → Bool) (o r : Option ℕ) (f : ℕ → ℕ → A) (d : A) → ((n m : ℕ) → IsTrue (P (f n m))) → with_two o r f ≡ Some d → IsTrue (P d)
+pub two_is : {A : Type 0} (P : A → Bool) (o r : Option ℕ) (f : ℕ → ℕ → A) (d : A) → ((n m : ℕ) → IsTrue (P (f n m))) → with_two o r f ≡ Some d → IsTrue (P d)
 two_is P None r f d all e = absurd cc
 two_is P (Some n) r f d all e = one_is P r (f n) d (all n) e
 
-three_is : {A : Type 0} (P : A → Bool) (o r s : Option ℕ) (f : ℕ → ℕ → ℕ → A) (d : A) → ((n m k : ℕ) → IsTrue (P (f n m k))) → with_three o r s f ≡ Some d → IsTrue (P d)
+pub three_is : {A : Type 0} (P : A → Bool) (o r s : Option ℕ) (f : ℕ → ℕ → ℕ → A) (d : A) → ((n m k : ℕ) → IsTrue (P (f n m k))) → with_three o r s f ≡ Some d → IsTrue (P d)
 three_is P None r s f d all e = absurd cc
 three_is P (Some n) r s f d all e = two_is P r s (f n) d (all n) e
 
-given_is : (P : Edit → Bool) (b : Names) (w : Option IdWord) (f : Option ℕ → Edit) (d : Edit) → ((n : Option ℕ) → IsTrue (P (f n))) → with_given b w f ≡ Some d → IsTrue (P d)
+pub given_is : (P : Edit → Bool) (b : Names) (w : Option IdWord) (f : Option ℕ → Edit) (d : Edit) → ((n : Option ℕ) → IsTrue (P (f n))) → with_given b w f ≡ Some d → IsTrue (P d)
 given_is P b None f d all e = let same : f None ≡ d = cc in subst (λ x. IsTrue (P x)) same (all None)
 given_is P b (Some w) f d all e = one_is P (id_of b w) (λ n. f (Some n)) d (λ n. all (Some n)) e
 
@@ -45,7 +45,7 @@ pairs_length : (b : Names) (xs : List NamedPair) (ys : List Pair) → pairs_of b
 pairs_length b [] ys e = let same : [] ≡ ys = cc in ap length (sym same)
 pairs_length b (x ∷ xs) ys e = onto_length (pair_of b x) (pairs_of b xs) ys (length xs) (pairs_length b xs) e
 
-list_is : (P : Edit → Bool) (o : Option ℕ) (xs : Option (List Pair)) (f : ℕ → List Pair → Edit) (d : Edit) → ((n : ℕ) (ys : List Pair) → xs ≡ Some ys → IsTrue (P (f n ys))) → with_pairs o xs f ≡ Some d → IsTrue (P d)
+pub list_is : (P : Edit → Bool) (o : Option ℕ) (xs : Option (List Pair)) (f : ℕ → List Pair → Edit) (d : Edit) → ((n : ℕ) (ys : List Pair) → xs ≡ Some ys → IsTrue (P (f n ys))) → with_pairs o xs f ≡ Some d → IsTrue (P d)
 list_is P None xs f d all e = absurd cc
 list_is P (Some n) None f d all e = absurd cc
 list_is P (Some n) (Some ys) f d all e = let same : f n ys ≡ d = cc in subst (λ x. IsTrue (P x)) same (all n ys refl)

@@ -52,6 +52,10 @@ is_script_line l = list_all is_name l.names && is_named_edit l.edit
 -- the edits that a script can spell by now
 abbrev pub is_built : NamedEdit → Bool
 is_built (AddIsoNode face p) = true
+is_built (MoveIsoNode n p) = true
+is_built (RemoveIsoNode n) = true
+is_built (AddIsoEdge a b line) = true
+is_built (RemoveIsoEdge e) = true
 is_built e = false
 
 abbrev pub can_spell : ScriptLine → Bool

@@ -1,5 +1,6 @@
 -- The grammar of a script, over bytes: a line spells an edit where its words are the words of the edit.
 use Rattle.std.specs.Prelude.{◌≡◌, ◌⊎◌, ℕ, ◌+◌, Bool, true, false, not, ◌&&◌, ◌||◌, IsTrue, List, [], ◌∷◌, filter, if◌then◌else◌, ◌==◌}
+use Rattle.std.specs.List.{list_all}
 use Rattle.topo_base.specs.ScriptLines.{ScriptLine}
 use Rattle.topo_model.specs.NamedRange.{can_spell}
 use Rattle.topo_model.specs.NamedWords.{script_words}
@@ -13,6 +14,10 @@ onto c (piece ∷ pieces) = (c ∷ piece) ∷ pieces
 abbrev pub pieces : (ℕ → Bool) → List (List ℕ) → List ℕ → List (List ℕ)
 pieces parts end [] = end
 pieces parts end (c ∷ cs) = if parts c then [] ∷ pieces parts end cs else onto c (pieces parts end cs)
+
+-- no byte of the text parts it
+abbrev pub is_whole : (ℕ → Bool) → List ℕ → Bool
+is_whole parts text = list_all (λ c. not (parts c)) text
 
 -- a carriage return right before a line feed belongs to the line's end
 abbrev pub begins_with_feed : List ℕ → Bool

@@ -2,8 +2,11 @@ use Rattle.std.proofs.Common.{List, ℕ, subst, rules, ◌∷◌}
 use Rattle.topo_base.specs.declared.named.NamedEdit.{NamedEdit}
 use Rattle.topo_model.specs.Script.{words_of}
 use Rattle.script_reader.specs.Reading.{AreNames, IsEdit}
-use Rattle.script_reader.proofs.EditWords.{binding_parts}
+use Rattle.script_reader.proofs.EditWords.{no_edit, binding_parts}
 use Rattle.script_reader.proofs.read.binding_line.Goals as goal
+
+pub returns-in_default : goal.returns-in_default
+returns-in_default c = λ l h. no_edit _ l.edit c.in_default.ensures (binding_parts _ _ l h).1
 
 pub returns-in_default-2 : goal.returns-in_default-2
 returns-in_default-2 c = λ l h.
