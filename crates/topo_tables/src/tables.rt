@@ -57,16 +57,6 @@ impl Model for Tables {
     ghost invariant = { λ t. t.universe ≡ universal_face };
 }
 
-/// Whether a node at one of the places has the point.
-fn is_point_taken(slots: &[Option<NodeRow>], point: Grid) -> bool
-    ensures { result ≡ list_any (in_slot (λ (n : NodeValue). same_point n.geom point)) slots.now }
-{
-    slots.iter().any(|slot| match slot {
-        Some(row) => row.geom == point,
-        None => false,
-    })
-}
-
 impl Tables {
     /// Face 0 alone. Takes no memory.
     pub fn empty(alloc: Global) -> Tables
@@ -148,13 +138,6 @@ impl Tables {
         face.0 == 0 || self.faces.has(face.0)
     }
 
-    /// Whether a node has the point.
-    pub fn has_node_at(&self, point: Grid) -> bool
-        ensures { result ≡ list_any (λ (n : NodeValue). same_point n.geom point) self.now.rows.nodes }
-    {
-        is_point_taken(self.nodes.slots(), point)
-    }
-
     /// The node of this id. None exactly where it isn't there. Takes one step.
     pub fn node<L: Ledger>(&self, id: NodeId, steps: &mut Steps<L>) -> Option<&NodeRow>
         ensures row { option_copied result ≡ row_at node_id_of self.now.rows.nodes id }
@@ -217,22 +200,5 @@ impl Tables {
             features: self.features.copy(alloc)?,
             relations: Vec::from_slice(alloc, &self.relations)?,
         })
-    }
-
-    /// Adds a node in a face, which may be none.
-    pub fn add_node(&mut self, face: Option<FaceId>, geom: Grid) -> Result<NodeId, Memory>
-        requires { self.old.rows.next_ids.node + 1 < 2 ^ 32 }
-        ensures rows { OnOk result (self.new.rows ≡ with_node_row self.old.rows self.old.rows.next_ids.node face geom) }
-        ensures id { IfOk result (λ id. id ≡ self.old.rows.next_ids.node) }
-        ensures err { OnErr result (self.new.rows ≡ self.old.rows) }
-    {
-        let node_id = NodeId(self.nodes.next_id());
-        self.nodes.reserve(1)?;
-        self.nodes.push(NodeRow {
-            node_id,
-            containing_face: face,
-            geom,
-        });
-        Ok(node_id)
     }
 }
