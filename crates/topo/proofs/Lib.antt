@@ -1,3 +1,5 @@
+pub mod Committed
+pub mod Growing
 pub mod Runs
 pub mod Ends
 pub mod Causes

@@ -1,39 +1,34 @@
 -- A run, one line after another.
-use Rattle.std.proofs.Common.{◌≡◌, ℕ, zero, suc, ◌+◌, ◌<◌, ◌≤◌, Bool, true, false, cond, not, ◌&&◌, List, [], ◌∷◌, ◌++◌, length, get_or, take, Option, Some, None, Result, Ok, Err, is_ok, IsTrue, refl, sym, subst, ap, ◌∙◌, arith, append-nil}
+use Rattle.std.proofs.Common.{◌≡◌, ℕ, zero, suc, ◌+◌, ◌<◌, ◌≤◌, Bool, true, false, ◌&&◌, List, [], ◌∷◌, ◌++◌, length, get_or, take, Option, Some, None, Result, Ok, Err, is_ok, IsTrue, refl, sym, subst, ap, ◌∙◌, arith, append-nil}
 use Rattle.std.specs.Prelude.{flat_map, OnOk}
 use Rattle.std.specs.Io.KnownBytes.{Appends}
 use Rattle.std.specs.List.{list_all}
 use Rattle.std.proofs.lemmas.List.{take_more}
 use Rattle.std.proofs.lemmas.List.Concat.{flat_map-append}
 use Rattle.std.proofs.lemmas.Bool.{and_parts, and_from}
-use Rattle.topo_base.specs.Point.{Point}
 use Rattle.topo_base.specs.ScriptLines.{ScriptLine}
-use Rattle.topo_base.specs.declared.rule.Rule.{Rule}
 use Rattle.topo_base.specs.declared.edit.Edit.{Edit}
-use Rattle.topo_base.specs.declared.edit.Edit.TheVariants as edit
 use Rattle.topo_base.specs.declared.element.Element.{Element}
 use Rattle.topo_base.specs.declared.answer.Answer.{Answer}
 use Rattle.topo_base.specs.declared.answer.Answer.TheVariants.{Done, Refused, Unbound, Stale, DiskFault, Memory}
-use Rattle.topo_base.specs.declared.named.IdWord.{IdWord}
 use Rattle.topo_base.specs.declared.named.NamedEdit.{NamedEdit}
-use Rattle.topo_base.specs.declared.named.NamedEdit.TheVariants.{AddIsoNode}
-use Rattle.topo_base.specs.declared.rule.Rule.TheVariants.{NoFace, PointBlocked, NotInFace}
+use Rattle.topo_base.specs.declared.named.NamedEdit.TheVariants.{AddIsoNode, MoveIsoNode, RemoveIsoNode, AddIsoEdge, RemoveIsoEdge}
+use Rattle.iso_edits.specs.Ready.{is_planned}
 use Rattle.script_reader.specs.Bindings.{names_of}
 use Rattle.topo_io.specs.Sinks.{AppendsFront}
 use Rattle.topo_io.proofs.Written.{appended_more, appended_none}
 use Rattle.topo_model.specs.Drawing.{Drawing}
-use Rattle.topo_model.specs.Outcome.{Accepted, Outcome}
-use Rattle.topo_model.specs.IsoEdits.{accepts_face, is_given_face}
-use Rattle.topo_model.specs.Blocked.{is_blocked}
-use Rattle.topo_model.specs.Faces.{face_at}
+use Rattle.topo_model.specs.Outcome.{Outcome}
 use Rattle.topo_model.specs.Step.{step}
-use Rattle.topo_model.specs.Replay.{after, answer_of, front_after, drawing_of}
-use Rattle.topo_model.specs.Bindings.{Names, id_of, with_one, resolve, bound, ids_of}
+use Rattle.topo_model.proofs.Resolving.{one_is, two_is, given_is}
+use Rattle.topo_model.specs.Replay.{answer_of, front_after}
+use Rattle.topo_model.specs.Bindings.{Names, id_of, resolve, bound, ids_of}
 use Rattle.topo_model.specs.NamedRange.{is_script_line, is_built, can_spell}
 use Rattle.topo_model.specs.Texts.{reply_text}
 use Rattle.topo_model.specs.Run.{is_done}
 use Rattle.topo_model.specs.ScriptRun.{edit_at, answer_to, answer_at, drawing_with, front_with, place_after, place_after_all, answers_at}
-use Rattle.topo.specs.Run.{State, Kept, state_of, answered, with_names, next, next_all, Shows, reply, replies, is_tried, CutsShort}
+use Rattle.topo.specs.Run.{State, Kept, state_of, answered, with_names, next, next_all, Shows, reply, replies, CutsShort}
+use Rattle.topo.proofs.Growing.{IsLittle, edit_little}
 
 -- ---- what the state has after some lines
 pub next_all_place : (s : State) (ls : List ScriptLine) → (next_all s ls).place ≡ place_after_all s.place ls
@@ -86,63 +81,46 @@ list_all-at p [] i l h inside is = absurd (omega arith)
 list_all-at p (x ∷ ls) zero l h inside is = let parts = and_parts (p x) (list_all p ls) h in subst (λ y. IsTrue (p y)) (sym is) parts.0
 list_all-at p (x ∷ ls) (suc i) l h inside is = let parts = and_parts (p x) (list_all p ls) h in list_all-at p ls i l parts.1 (omega arith) is
 
--- ---- the edit that a line gives can be tried
-given_tried : (p : Point) (b : Names) (w : Option IdWord) (e : Edit) → resolve b (AddIsoNode w p) ≡ Some e → IsTrue (is_tried e)
-given_tried p b None e is = let same : edit.AddIsoNode None p ≡ e = cc in subst (λ x. IsTrue (is_tried x)) same refl
-given_tried p b (Some w) e is = found (id_of b w) is
-  where
-    found : (o : Option ℕ) → with_one o (λ n. edit.AddIsoNode (Some n) p) ≡ Some e → IsTrue (is_tried e)
-    found None is = absurd cc
-    found (Some n) is = let same : edit.AddIsoNode (Some n) p ≡ e = cc in subst (λ x. IsTrue (is_tried x)) same refl
+-- ---- the edit that a line gives can be planned
+pub built_planned : (b : Names) (n : NamedEdit) (e : Edit) → IsTrue (is_built n) → resolve b n ≡ Some e → IsTrue (is_planned e)
+built_planned b (AddIsoNode face p) e good is = given_is is_planned b face _ e (λ n. refl) is
+built_planned b (MoveIsoNode n p) e good is = one_is is_planned (id_of b n) _ e (λ n. refl) is
+built_planned b (RemoveIsoNode n) e good is = one_is is_planned (id_of b n) _ e (λ n. refl) is
+built_planned b (AddIsoEdge s t line) e good is = two_is is_planned (id_of b s) (id_of b t) _ e (λ n m. refl) is
+built_planned b (RemoveIsoEdge n) e good is = one_is is_planned (id_of b n) _ e (λ n. refl) is
+built_planned b n e good is = absurd cc
 
-pub built_tried : (b : Names) (n : NamedEdit) (e : Edit) → IsTrue (is_built n) → resolve b n ≡ Some e → IsTrue (is_tried e)
-built_tried b (AddIsoNode w p) e good is = given_tried p b w e is
-built_tried b n e good is = absurd cc
+pub line_planned : (b : Names) (l : ScriptLine) (e : Edit) → IsTrue (can_spell l) → resolve b l.edit ≡ Some e → IsTrue (is_planned e)
+line_planned b l e good is = built_planned b l.edit e (and_parts (is_script_line l) (is_built l.edit) good).1 is
 
-pub line_tried : (b : Names) (l : ScriptLine) (e : Edit) → IsTrue (can_spell l) → resolve b l.edit ≡ Some e → IsTrue (is_tried e)
-line_tried b l e good is = built_tried b l.edit e (and_parts (is_script_line l) (is_built l.edit) good).1 is
-
--- ---- at most one node and one place more
+-- ---- at most one node, one edge and one place more for each line
 pub record IsFew (s t : State) (n : ℕ) : Type 0 where
   pub nodes : t.place.drawing.next_ids.node ≤ s.place.drawing.next_ids.node + n
+  pub edges : t.place.drawing.next_ids.edge ≤ s.place.drawing.next_ids.edge + n
   pub places : t.place.front ≤ s.place.front + n
 
-record IsLittle (S T : Drawing) (front behind : ℕ) : Type 0 where
-  nodes : T.next_ids.node ≤ S.next_ids.node + 1
-  places : behind ≤ front + 1
-
-little_choice : (S : Drawing) (front : ℕ) (b c d : Bool) (x y z : Rule) (done : Accepted) → done.drawing.next_ids.node ≡ S.next_ids.node + 1
-    → IsLittle S (drawing_of S (cond b (Err x) (cond c (Err y) (cond d (Err z) (Ok done))))) front (front_after front (cond b (Err x) (cond c (Err y) (cond d (Err z) (Ok done)))))
-little_choice S front true c d x y z done h = record { nodes = omega arith; places = omega arith }
-little_choice S front false true d x y z done h = record { nodes = omega arith; places = omega arith }
-little_choice S front false false true x y z done h = record { nodes = omega arith; places = omega arith }
-little_choice S front false false false x y z done h = record { nodes = omega arith; places = omega arith }
-
-edit_little : (S : Drawing) (front : ℕ) (e : Edit) → IsTrue (is_tried e) → IsLittle S (after S e) front (front_after front (step S e))
-edit_little S front (edit.AddIsoNode face p) good =
-    little_choice S front (not (accepts_face S face)) (is_blocked S p) (not (is_given_face face (face_at S p))) NoFace PointBlocked NotInFace _ refl
-edit_little S front e good = absurd cc
-
-with_little : (S : Drawing) (front : ℕ) (o : Option Edit) → ((e : Edit) → o ≡ Some e → IsTrue (is_tried e)) → IsLittle S (drawing_with S o) front (front_with S front o)
-with_little S front None good = record { nodes = omega arith; places = omega arith }
+with_little : (S : Drawing) (front : ℕ) (o : Option Edit) → ((e : Edit) → o ≡ Some e → IsTrue (is_planned e)) → IsLittle S (drawing_with S o) front (front_with S front o)
+with_little S front None good = record { nodes = omega arith; edges = omega arith; places = omega arith }
 with_little S front (Some e) good = edit_little S front e (good e refl)
 
 next_few : (s : State) (l : ScriptLine) → IsTrue (can_spell l) → IsFew s (next s l) 1
 next_few s l good =
-    let few = with_little s.place.drawing s.place.front (edit_at s.place l) (λ e is. line_tried s.place.names l e good is) in
-    record { nodes = few.nodes; places = few.places }
+    let few = with_little s.place.drawing s.place.front (edit_at s.place l) (λ e is. line_planned s.place.names l e good is) in
+    record { nodes = few.nodes; edges = few.edges; places = few.places }
 
 pub next_all_few : (s : State) (ls : List ScriptLine) → IsTrue (list_all can_spell ls) → IsFew s (next_all s ls) (length ls)
-next_all_few s [] good = record { nodes = omega arith; places = omega arith }
+next_all_few s [] good = record { nodes = omega arith; edges = omega arith; places = omega arith }
 next_all_few s (l ∷ ls) good =
     let parts = and_parts (can_spell l) (list_all can_spell ls) good in
     let one = next_few s l parts.0 in
     let more = next_all_few (next s l) ls parts.1 in
     let nodes = one.nodes in
+    let edges = one.edges in
     let places = one.places in
     let nodes' = more.nodes in
+    let edges' = more.edges in
     let places' = more.places in
-    record { nodes = omega arith; places = omega arith }
+    record { nodes = omega arith; edges = omega arith; places = omega arith }
 
 pub list_all-take : (p : ScriptLine → Bool) (ls : List ScriptLine) (n : ℕ) → IsTrue (list_all p ls) → IsTrue (list_all p (take n ls))
 list_all-take p [] zero h = refl

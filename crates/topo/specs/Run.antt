@@ -1,16 +1,13 @@
 -- How a run goes on, line after line.
-use Rattle.std.specs.Prelude.{◌≡◌, ℕ, ◌+◌, ◌^◌, ◌<◌, Bool, true, false, ◌&&◌, List, [], ◌∷◌, ◌++◌, take, length, Option}
+use Rattle.std.specs.Prelude.{◌≡◌, ℕ, ◌+◌, ◌^◌, ◌<◌, Bool, true, ◌&&◌, List, [], ◌∷◌, ◌++◌, take, length, Option}
 use Rattle.std.specs.Io.KnownBytes.{Appends}
 use Rattle.topo_base.specs.ScriptLines.{ScriptLine}
-use Rattle.topo_base.specs.declared.edit.Edit.{Edit}
-use Rattle.topo_base.specs.declared.edit.Edit.TheVariants.{AddIsoNode}
 use Rattle.topo_io.specs.Sinks.{IsFront}
 use Rattle.topo_model.specs.Bindings.{Names}
 use Rattle.script_reader.specs.Bindings.{names_of}
 use Rattle.topo_model.specs.Drawing.{Drawing}
 use Rattle.topo_model.specs.Run.{is_done}
 use Rattle.topo_model.specs.ScriptRun.{Place, beginning, edit_at, drawing_with, front_with, answer_at, place_after, answers_at}
-use Rattle.topo_model.specs.Tables.{Tables, universal_face}
 use Rattle.topo_model.specs.Texts.{reply_text, replies_text}
 
 -- where a run stands, and whether all lines so far were done
@@ -66,19 +63,14 @@ reply s l = reply_text (answer_at s.place l)
 abbrev pub replies : State → List ScriptLine → List ℕ
 replies s ls = replies_text (answers_at s.place ls)
 
--- the edits that can be tried by now
-abbrev pub is_tried : Edit → Bool
-is_tried (AddIsoNode face p) = true
-is_tried e = false
-
--- the tables of a drawing without edges, in which face 0 is the only one
-pub record IsBare (t : Tables) : Type 0 where
-  pub no_edges : t.edges ≡ []
-  pub one_face : t.faces ≡ universal_face ∷ []
+-- there are ids for some edits more, each of which makes at most one node and one edge
+pub record HasIds (S : Drawing) (more : ℕ) : Type 0 where
+  pub nodes : S.next_ids.node + more < 2 ^ 32
+  pub edges : S.next_ids.edge + more < 2 ^ 32
 
 -- some lines more have ids and places
 pub record HasRoom (s : State) (more : ℕ) : Type 0 where
-  pub nodes : s.place.drawing.next_ids.node + more < 2 ^ 32
+  pub ids : HasIds s.place.drawing more
   pub places : s.place.front + more < 2 ^ 64
 
 -- the lines up to one that wanted memory were tried, and their replies were written

@@ -4,6 +4,7 @@
 //! hands it the words of the command line, standard input and standard output.
 #![tactic(auto)]
 
+mod commit;
 mod end;
 mod outside;
 mod run;

@@ -1,23 +1,22 @@
 ghost use Rattle.std.specs.Prelude.{◌≡◌, ◌≤◌, ◌<◌, ◌^◌, ◌+◌, ◌⊎◌, ℕ, [], ◌∷◌, take, length, true, IsTrue, IfOk, OnOk, OnErr, IsErrOf, Ok};
 ghost use Rattle.std.specs.Io.KnownBytes.{Appends};
 ghost use Rattle.std.specs.List.{list_all};
+ghost use Rattle.iso_edits.specs.Ready.{HasPlainDrawing, is_planned};
 ghost use Rattle.script_reader.specs.Bindings.{names_of};
 ghost use Rattle.topo_io.specs.Causes.{Rose};
 ghost use Rattle.topo_io.specs.Sinks.{AppendsFront};
 ghost use Rattle.topo_model.specs.Bindings.{bound, ids_of, resolve};
-ghost use Rattle.topo_model.specs.IsoEdits.{accepts_face, add_iso_node};
 ghost use Rattle.topo_model.specs.NamedRange.{can_spell};
-ghost use Rattle.topo_model.specs.Replay.{after, answer_of, drawing_of};
 ghost use Rattle.topo_model.specs.ScriptRun.{answer_at, answer_to, drawing_with};
-ghost use Rattle.topo_model.specs.Step.{step};
 ghost use Rattle.topo_model.specs.Tables.{drawn, tables_of};
-ghost use Rattle.topo.specs.Run.{HasRoom, IsBare, Shows, StopsShort, CutsShort, answered, next, next_all, reply, replies, is_tried, start, state_of, with_names};
+ghost use Rattle.topo.specs.Run.{HasIds, HasRoom, Shows, StopsShort, CutsShort, answered, next, next_all, reply, replies, start, state_of, with_names};
 
+use crate::commit::try_edit;
 use edit_words::reply_text;
 use script_reader::{Bindings, LineEdit, ResolveEnd, ScriptLine};
 use std::alloc::Global;
 use std::marker::Model;
-use topo_base::{Answer, Edit, Element, FaceId, Grid, Ids, Memory, NodeId, Rule};
+use topo_base::{Answer, Edit, Ids, Memory};
 use topo_io::{Sink, write_all};
 use topo_tables::Tables;
 
@@ -33,13 +32,14 @@ pub struct Desk {
 
 impl Model for Desk {
     ghost use Rattle.topo_model.specs.Tables.{drawn};
-    ghost use Rattle.topo.specs.Run.{Kept, IsBare};
+    ghost use Rattle.iso_edits.specs.Ready.{HasPlainDrawing};
+    ghost use Rattle.topo.specs.Run.{Kept};
 
     ghost Value = { Kept };
 
     ghost view = { λ d. record { drawing = drawn d.tables.rows; front = d.front; bindings = d.names; all_done = d.all_done } };
 
-    ghost invariant = { λ d. IsBare d.tables.rows };
+    ghost invariant = { λ d. HasPlainDrawing d.tables.rows };
 }
 
 /// Why a run stops before its end.
@@ -53,69 +53,27 @@ pub enum Stop {
     Fault,
 }
 
-/// Whether the face is there, where one is given.
-fn accepts_face(tables: &Tables, face: Option<FaceId>) -> bool
-    ensures { result ≡ accepts_face (drawn tables.now.rows) face }
-{
-    match face {
-        None => true,
-        Some(face) => tables.has_face(face),
-    }
-}
-
-fn refused(rule: Rule, front: u64) -> Answer
-    ensures { result ≡ Answer.Refused rule front }
-{
-    Answer::Refused { rule, front }
-}
-
-fn done_node(node: NodeId, front: u64) -> Answer
-    ensures { result ≡ Answer.Done (Element.Node node ∷ []) front }
-{
-    let mut ids = Ids::new();
-    ids.push(Element::Node(node));
-    Answer::Done { ids, front }
-}
-
-/// Tries an isolated node, by the rules of ST_AddIsoNode.
-fn add_iso_node(
-    tables: &mut Tables,
-    front: u64,
-    face: Option<FaceId>,
-    geom: Grid,
-) -> Result<Answer, Memory>
-    requires bare { IsBare tables.old.rows }
-    requires ids { tables.old.rows.next_ids.node + 1 < 2 ^ 32 }
-    requires front { front + 1 < 2 ^ 64 }
-    ensures answer { IfOk result (λ a. a ≡ answer_of front (add_iso_node (drawn tables.old.rows) face geom)) }
-    ensures after { OnOk result (drawn tables.new.rows
-        ≡ drawing_of (drawn tables.old.rows) (add_iso_node (drawn tables.old.rows) face geom)) }
-    ensures bare { IsBare tables.new.rows }
-    ensures err { OnErr result (tables.new.rows ≡ tables.old.rows) }
-{
-    if !accepts_face(tables, face) {
-        return Ok(refused(Rule::NoFace, front));
-    }
-    if tables.has_node_at(geom) {
-        return Ok(refused(Rule::PointBlocked, front));
-    }
-    let node = tables.add_node(Some(FaceId(0)), geom)?;
-    Ok(done_node(node, front + 1))
-}
-
-/// Tries an edit, by the rules of its function in the manual.
-fn try_edit(tables: &mut Tables, front: u64, edit: &Edit) -> Result<Answer, Memory>
-    requires bare { IsBare tables.old.rows }
-    requires ids { tables.old.rows.next_ids.node + 1 < 2 ^ 32 }
-    requires front { front + 1 < 2 ^ 64 }
-    requires good { IsTrue (is_tried edit.now) }
-    ensures answer { IfOk result (λ a. a ≡ answer_of front (step (drawn tables.old.rows) edit.now)) }
-    ensures after { OnOk result (drawn tables.new.rows ≡ after (drawn tables.old.rows) edit.now) }
-    ensures bare { IsBare tables.new.rows }
-    ensures err { OnErr result (tables.new.rows ≡ tables.old.rows) }
+/// The same edit once more, of those that can be planned.
+fn copy_of(alloc: Global, edit: &Edit) -> Result<Edit, Memory>
+    requires { IsTrue (is_planned edit.now) }
+    ensures { IfOk result (λ e. e ≡ edit.now) }
 {
     match edit {
-        Edit::AddIsoNode { face, geom } => add_iso_node(tables, front, *face, *geom),
+        Edit::AddIsoNode { face, geom } => Ok(Edit::AddIsoNode {
+            face: *face,
+            geom: *geom,
+        }),
+        Edit::MoveIsoNode { node, geom } => Ok(Edit::MoveIsoNode {
+            node: *node,
+            geom: *geom,
+        }),
+        Edit::RemoveIsoNode { node } => Ok(Edit::RemoveIsoNode { node: *node }),
+        Edit::AddIsoEdge { start, end, line } => Ok(Edit::AddIsoEdge {
+            start: *start,
+            end: *end,
+            line: line.copy(alloc)?,
+        }),
+        Edit::RemoveIsoEdge { edge } => Ok(Edit::RemoveIsoEdge { edge: *edge }),
         _ => unreachable!(),
     }
 }
@@ -128,20 +86,20 @@ fn try_line(
     names: &Bindings,
     line: &ScriptLine,
 ) -> Result<Answer, Memory>
-    requires bare { IsBare tables.old.rows }
-    requires ids { tables.old.rows.next_ids.node + 1 < 2 ^ 32 }
+    requires plain { HasPlainDrawing tables.old.rows }
+    requires ids { HasIds (drawn tables.old.rows) 1 }
     requires front { front + 1 < 2 ^ 64 }
     requires good { IsTrue (can_spell line.now) }
     ensures answer { IfOk result (λ a. a ≡ answer_to (drawn tables.old.rows) front (resolve (names_of names.now) line.now.edit)) }
     ensures after { OnOk result (drawn tables.new.rows
         ≡ drawing_with (drawn tables.old.rows) (resolve (names_of names.now) line.now.edit)) }
-    ensures bare { IsBare tables.new.rows }
+    ensures plain { HasPlainDrawing tables.new.rows }
     ensures err { OnErr result (tables.new.rows ≡ tables.old.rows) }
 {
     match line.edit() {
-        LineEdit::Plain(edit) => try_edit(tables, front, edit),
+        LineEdit::Plain(edit) => try_edit(alloc, tables, front, copy_of(alloc, edit)?),
         LineEdit::Named(named) => match names.resolve(alloc, named) {
-            Ok(edit) => try_edit(tables, front, &edit),
+            Ok(edit) => try_edit(alloc, tables, front, edit),
             Err(ResolveEnd::Unbound) => Ok(Answer::Unbound),
             Err(ResolveEnd::Memory) => Err(Memory),
         },

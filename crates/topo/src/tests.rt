@@ -1,6 +1,7 @@
 use crate::solo::solo;
 use crate::status::Status;
 use std::alloc::Global;
+use std::process::Abort;
 use std::test::Fail;
 use topo_io::{MemSink, MemSource, Sink, Source};
 
@@ -17,6 +18,16 @@ fn run<S: Source, K: Sink>(
 ) -> Result<Status, Fail> {
     let words = vec![in alloc; String::from_str(alloc, word)?]?;
     Ok(solo(alloc, &words, source, sink))
+}
+
+/// Runs the script with ample memory: this is to be written, and this to be the status.
+fn answers(rt: &impl Abort, alloc: Global, script: &str, due: &str, want: u8) -> Result<(), Fail> {
+    let mut source = MemSource::plain(alloc, script.as_bytes().to_vec(alloc)?);
+    let mut sink = MemSink::plain(alloc);
+    let status = run(alloc, "apply", &mut source, &mut sink)?;
+    assert_eq!(rt; sink.bytes(), due.as_bytes(), "at {script:?}");
+    assert_eq!(rt; status.number(), want, "at {script:?}");
+    Ok(())
 }
 
 #[test]
@@ -52,13 +63,66 @@ fn scripts_are_answered(rt: HostRuntime) -> Result<(), Fail> {
         ),
     ];
     for (script, due, want) in rows {
-        let mut source = MemSource::plain(alloc, script.as_bytes().to_vec(alloc)?);
-        let mut sink = MemSink::plain(alloc);
-        let status = run(alloc, "apply", &mut source, &mut sink)?;
-        assert_eq!(rt; sink.bytes(), due.as_bytes(), "at {script:?}");
-        assert_eq!(rt; status.number(), want, "at {script:?}");
+        answers(&rt, alloc, script, due, want)?;
     }
     Ok(())
+}
+
+const JOINED: &str = "addisonode - 0 0\naddisonode - 4 0\naddisoedge 1 2 0 0 4 0\n";
+
+const THREE_NODES: &str = "addisonode - 0 0\naddisonode - 4 0\naddisonode - 2 0\n";
+
+const THREE_NODES_DUE: &str = "done node 1 at 1\ndone node 2 at 2\ndone node 3 at 3\n";
+
+#[test]
+fn isolated_edges_come_and_go(rt: HostRuntime) -> Result<(), Fail> {
+    let alloc = rt.alloc();
+    let replies = "done node 1 at 1\ndone node 2 at 2\ndone edge 1 at 3\n";
+    let due =
+        "next 3 2 1 1 1\nnode 1 - 0 0\nnode 2 - 4 0\nedge 1 1 2 -1 1 0 0 2 0 0 4 0\nface 0 -\n";
+    let due = [replies, due].concat(alloc)?;
+    answers(&rt, alloc, JOINED, &due, 0)?;
+    let script = [JOINED, "removeisoedge 1\nremoveisoedge 1\n"].concat(alloc)?;
+    let due =
+        "done edge 1 at 4\nrefused NoEdge at 4\nnext 3 2 1 1 1\nnode 1 0 0 0\nnode 2 0 4 0\nface 0 -\n";
+    let due = [replies, due].concat(alloc)?;
+    answers(&rt, alloc, &script, &due, 1)
+}
+
+#[test]
+fn isolated_edits_follow_their_rules(rt: HostRuntime) -> Result<(), Fail> {
+    let alloc = rt.alloc();
+    let script =
+        "addisoedge 1 2 0 0 4 0\naddisoedge 1 2 0 0 2 2 4 0\nmoveisonode 3 2 2\nmoveisonode 3 2 1\nremoveisonode 1\naddisoedge 3 3 2 1 2 0\n";
+    let due =
+        "refused LineBlocked at 3\ndone edge 1 at 4\nrefused PointBlocked at 4\ndone node 3 at 5\nrefused NotIsolated at 5\nrefused SameNode at 5\n";
+    let rows =
+        "next 4 2 1 1 1\nnode 1 - 0 0\nnode 2 - 4 0\nnode 3 0 2 1\nedge 1 1 2 -1 1 0 0 3 0 0 2 2 4 0\nface 0 -\n";
+    let script = [THREE_NODES, script].concat(alloc)?;
+    let due = [THREE_NODES_DUE, due, rows].concat(alloc)?;
+    answers(&rt, alloc, &script, &due, 1)
+}
+
+#[test]
+fn isolated_edits_name_what_is_missing(rt: HostRuntime) -> Result<(), Fail> {
+    let alloc = rt.alloc();
+    let script =
+        "moveisonode 9 1 1\nremoveisonode 9\naddisoedge 1 9 0 0 1 1\nremoveisoedge 9\naddisoedge 1 2 0 0 4 1\naddisoedge 1 2 0 0 3 3 3 0 0 3 4 0\nremoveisonode 3\nremoveisonode 3\n";
+    let due =
+        "refused NoNode at 3\nrefused NoNode at 3\nrefused NoNode at 3\nrefused NoEdge at 3\nrefused LineEnds at 3\nrefused LineNotSimple at 3\ndone node 3 at 4\nrefused NoNode at 4\n";
+    let rows = "next 4 1 1 1 1\nnode 1 0 0 0\nnode 2 0 4 0\nface 0 -\n";
+    let script = [THREE_NODES, script].concat(alloc)?;
+    let due = [THREE_NODES_DUE, due, rows].concat(alloc)?;
+    answers(&rt, alloc, &script, &due, 1)
+}
+
+#[test]
+fn an_unbound_name_refuses_an_edge(rt: HostRuntime) -> Result<(), Fail> {
+    let alloc = rt.alloc();
+    let script = "a = addisonode 0 0 0\nb = addisonode 0 0 0\naddisoedge $a $b 0 0 4 0\n";
+    let due =
+        "done node 1 at 1\nrefused PointBlocked at 1\nrefused Unbound\nnext 2 1 1 1 1\nnode 1 0 0 0\nface 0 -\n";
+    answers(&rt, alloc, script, due, 1)
 }
 
 #[test]
@@ -83,7 +147,11 @@ fn bad_lines_are_named(rt: HostRuntime) -> Result<(), Fail> {
         ("a= addisonode - 0 0\n", "fault line 1\n"),
         ("addisonode $ 0 0\n", "fault line 1\n"),
         ("editor 1\naddisonode - 0 0\n", "fault line 1\n"),
-        ("moveisonode 1 0 0\n", "fault line 1\n"),
+        ("moveisonode 1 0\n", "fault line 1\n"),
+        ("addisoedge 1 2 0 0\n", "fault line 1\n"),
+        ("addisoedge 1 2 0 0 4\n", "fault line 1\n"),
+        ("removeisoedge\n", "fault line 1\n"),
+        ("addedgemodface 1 2 0 0 4 0\n", "fault line 1\n"),
     ];
     for (script, due) in rows {
         let mut source = MemSource::plain(alloc, script.as_bytes().to_vec(alloc)?);

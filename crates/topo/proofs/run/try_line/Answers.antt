@@ -1,10 +1,10 @@
 use Rattle.std.proofs.Common.{ap, ◌∙◌}
 use Rattle.script_reader.specs.Bindings.{names_of}
 use Rattle.topo_model.specs.Bindings.{resolve}
-use Rattle.topo.proofs.Runs.{line_tried}
+use Rattle.topo.proofs.Runs.{line_planned}
 use Rattle.topo.proofs.run.try_line.Goals as goal
 
-pub try_edit-requires-in-Ok-clause-good : goal.try_edit-requires-in-Ok-clause-good
-try_edit-requires-in-Ok-clause-good c =
+pub try_edit-requires-in-Ok-clause-planned : goal.try_edit-requires-in-Ok-clause-planned
+try_edit-requires-in-Ok-clause-planned c =
     let names = names_of c.args.names.now in
-    line_tried names c.args.line.now c.in-Ok.edit c.requires.good (ap (resolve names) c.in-Named.ensures.edit ∙ c.in-Ok.ensures.edit)
+    line_planned names c.args.line.now c.in-Ok.edit c.requires.good (ap (resolve names) c.in-Named.ensures.edit ∙ c.in-Ok.ensures.edit)

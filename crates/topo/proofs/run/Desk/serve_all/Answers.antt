@@ -22,11 +22,13 @@ serve-requires-clause-room g c =
     let count : length ls ≤ c.loop-at.at = omega (arith, length-take c.loop-at.at c.deref-line-items.result.now) in
     let inside = c.loop-at-test.true in
     let same = ap length c.deref-line-items.ensures.value in
-    let room = c.requires.room.nodes in
-    let room' = c.requires.room.places in
+    let room = c.requires.room.ids.nodes in
+    let room' = c.requires.room.ids.edges in
+    let room'' = c.requires.room.places in
     let nodes = few.nodes in
+    let edges = few.edges in
     let places = few.places in
-    subst (λ x. HasRoom x 1) (sym c.loop-at.invariant.state) (record { nodes = omega arith; places = omega arith })
+    subst (λ x. HasRoom x 1) (sym c.loop-at.invariant.state) (record { ids = record { nodes = omega arith; edges = omega arith }; places = omega arith })
 
 pub serve-requires-clause-good : goal.serve-requires-clause-good
 serve-requires-clause-good g c = list_all-at can_spell c.deref-line-items.result.now c.loop-at.at c.line-item.result (good_lines c.deref-line-items.result.now c.args.lines.items c.deref-line-items.ensures.value c.requires.good) c.loop-at-test.true c.line-item.is
