@@ -56,6 +56,9 @@ is_some-copied : {R : Type 0} (found : Option (Bor R)) → is_some found ≡ is_
 is_some-copied None = refl
 is_some-copied (Some row) = refl
 
+pub has_if_found : {R : Type 0} (id : R → ℕ) (rows : List R) (n m : ℕ) (found : Option (Bor R)) (b : Bool) → b ≡ is_some found → option_copied found ≡ row_at id rows n → n ≡ m → b ≡ has_row id rows m
+has_if_found id rows n m found b e is same = e ∙ is_some-copied found ∙ ap is_some is ∙ is_some-row_at id rows n ∙ ap (has_row id rows) same
+
 pub there_if_found : {R : Type 0} (id : R → ℕ) (rows : List R) (n m : ℕ) (found : Option (Bor R)) (b : Bool) → b ≡ is_some found → b ≡ true → option_copied found ≡ row_at id rows n → m ≡ n → IsTrue (has_row id rows m)
 there_if_found id rows n m found b e so is same =
     ap (has_row id rows) same ∙ sym (is_some-row_at id rows n) ∙ ap is_some (sym is) ∙ sym (is_some-copied found) ∙ sym e ∙ so

@@ -3,7 +3,7 @@ use Rattle.std.proofs.Common.{ℕ, ◌+◌, ◌≤◌, Bool, cond, List, [], ◌
 use Rattle.std.specs.List.{count_by}
 use Rattle.std.proofs.lemmas.List.Sums.{sum_by-cons}
 use Rattle.topo_base.specs.declared.write.RowWrite.{RowWrite}
-use Rattle.topo_tables.specs.Room.{Room, HasRoom, LeavesRoom, one_if, adds_node, adds_edge, adds_face, adds_layer, adds_feature}
+use Rattle.topo_tables.specs.Room.{Room, HasRoom, LeavesRoom, one_if, adds_node, adds_edge, adds_face, adds_layer, adds_feature, adds_relation}
 
 count_first : (p : RowWrite → Bool) (w : RowWrite) (ws : List RowWrite) (m : ℕ) → count_by p (w ∷ ws) ≤ m → count_by p (w ∷ []) ≤ m
 count_first p w ws m h = omega (arith, sum_by-cons (λ x. cond (p x) 1 0) w ws, sum_by-cons (λ x. cond (p x) 1 0) w [])
@@ -19,6 +19,7 @@ room_first room w ws h =
       faces = count_first adds_face w ws room.faces h.faces;
       layers = count_first adds_layer w ws room.layers h.layers;
       features = count_first adds_feature w ws room.features h.features;
+      relations = count_first adds_relation w ws room.relations h.relations;
     }
 
 pub room_rest : (old new : Room) (w : RowWrite) (ws : List RowWrite) → HasRoom old (w ∷ ws) → LeavesRoom w old new → HasRoom new ws
@@ -29,4 +30,5 @@ room_rest old new w ws h left =
       faces = count_rest adds_face w ws old.faces new.faces h.faces left.faces;
       layers = count_rest adds_layer w ws old.layers new.layers h.layers left.layers;
       features = count_rest adds_feature w ws old.features new.features h.features left.features;
+      relations = count_rest adds_relation w ws old.relations new.relations h.relations left.relations;
     }

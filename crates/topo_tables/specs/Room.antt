@@ -2,7 +2,7 @@
 use Rattle.std.specs.Prelude.{ℕ, ◌+◌, ◌≤◌, Bool, true, false, List, if◌then◌else◌}
 use Rattle.std.specs.List.{count_by}
 use Rattle.topo_base.specs.declared.write.RowWrite.{RowWrite}
-use Rattle.topo_base.specs.declared.write.RowWrite.TheVariants.{AddNode, AddEdge, AddFace, AddLayer, AddFeature, AddRow, DropRow}
+use Rattle.topo_base.specs.declared.write.RowWrite.TheVariants.{AddNode, AddEdge, AddFace, AddLayer, AddFeature, AddRow}
 use Rattle.topo_model.specs.Tables.{Tables}
 
 -- for how many rows more each table has room
@@ -12,17 +12,12 @@ pub record Room : Type 0 where
   pub faces : ℕ
   pub layers : ℕ
   pub features : ℕ
+  pub relations : ℕ
 
 -- the rows, and the room for more
 pub record Held : Type 0 where
   pub rows : Tables
   pub room : Room
-
--- a write is one that the tables take so far: not of a relation row
-abbrev pub is_served : RowWrite → Bool
-is_served (AddRow feature layer element type) = false
-is_served (DropRow feature layer element type) = false
-is_served _ = true
 
 -- which table gets a row by a write
 abbrev pub adds_node : RowWrite → Bool
@@ -45,6 +40,10 @@ abbrev pub adds_feature : RowWrite → Bool
 adds_feature (AddFeature feature layer) = true
 adds_feature _ = false
 
+abbrev pub adds_relation : RowWrite → Bool
+adds_relation (AddRow feature layer element type) = true
+adds_relation _ = false
+
 -- there is room for the rows that the writes add
 pub record HasRoom (room : Room) (writes : List RowWrite) : Type 0 where
   pub nodes : count_by adds_node writes ≤ room.nodes
@@ -52,6 +51,7 @@ pub record HasRoom (room : Room) (writes : List RowWrite) : Type 0 where
   pub faces : count_by adds_face writes ≤ room.faces
   pub layers : count_by adds_layer writes ≤ room.layers
   pub features : count_by adds_feature writes ≤ room.features
+  pub relations : count_by adds_relation writes ≤ room.relations
 
 -- what room a write leaves: one row less for its table where it adds one
 abbrev pub one_if : Bool → ℕ
@@ -63,6 +63,7 @@ pub record LeavesRoom (one : RowWrite) (old new : Room) : Type 0 where
   pub faces : old.faces ≤ new.faces + one_if (adds_face one)
   pub layers : old.layers ≤ new.layers + one_if (adds_layer one)
   pub features : old.features ≤ new.features + one_if (adds_feature one)
+  pub relations : old.relations ≤ new.relations + one_if (adds_relation one)
 
 -- room that is no smaller
 pub record IsKept (old new : Room) : Type 0 where
@@ -71,3 +72,4 @@ pub record IsKept (old new : Room) : Type 0 where
   pub faces : old.faces ≤ new.faces
   pub layers : old.layers ≤ new.layers
   pub features : old.features ≤ new.features
+  pub relations : old.relations ≤ new.relations

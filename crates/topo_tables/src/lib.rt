@@ -9,6 +9,9 @@
 mod changes;
 mod excerpt;
 mod places;
+#[cfg(test)]
+mod relation_tests;
+mod relations;
 mod reserve;
 mod row;
 mod tables;

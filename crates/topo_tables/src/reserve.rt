@@ -1,7 +1,7 @@
 // Room for the rows that writes add.
 ghost use Rattle.std.specs.Prelude.{◌≡◌, OnOk};
 ghost use Rattle.std.specs.List.{count_by};
-ghost use Rattle.topo_tables.specs.Room.{HasRoom, IsKept, adds_node, adds_edge, adds_face, adds_layer, adds_feature};
+ghost use Rattle.topo_tables.specs.Room.{HasRoom, IsKept, adds_node, adds_edge, adds_face, adds_layer, adds_feature, adds_relation};
 
 use crate::tables::Tables;
 use crate::writes::Writes;
@@ -67,6 +67,18 @@ fn features_added(writes: &[RowWrite]) -> usize
     writes.iter().filter(|one| adds_feature(one)).count()
 }
 
+fn adds_relation(one: &RowWrite) -> bool
+    ensures { result ≡ adds_relation one.now }
+{
+    matches!(one, RowWrite::AddRow { .. })
+}
+
+fn relations_added(writes: &[RowWrite]) -> usize
+    ensures { result ≡ count_by adds_relation writes.now }
+{
+    writes.iter().filter(|one| adds_relation(one)).count()
+}
+
 impl Tables {
     /// Makes room for the rows that these writes add: after Ok they take no memory. The rows stay as
     /// they are in any case.
@@ -81,6 +93,7 @@ impl Tables {
         self.faces.reserve(faces_added(writes))?;
         self.layers.reserve(layers_added(writes))?;
         self.features.reserve(features_added(writes))?;
+        self.relations.reserve(relations_added(writes))?;
         Ok(())
     }
 }

@@ -35,7 +35,7 @@ pub struct Tables {
 }
 
 impl Model for Tables {
-    ghost use Rattle.std.specs.Prelude.{◌≡◌, ◌∷◌};
+    ghost use Rattle.std.specs.Prelude.{◌≡◌, ◌∷◌, ◌-◌, vec_len, vec_capacity};
     ghost use Rattle.topo_model.specs.Tables.{universal_face};
     ghost use Rattle.topo_tables.specs.Room.{Held};
 
@@ -51,7 +51,7 @@ impl Model for Tables {
         features = t.features.rows;
         relations = t.relations.items;
       };
-      room = record { nodes = t.nodes.room; edges = t.edges.room; faces = t.faces.room; layers = t.layers.room; features = t.features.room };
+      room = record { nodes = t.nodes.room; edges = t.edges.room; faces = t.faces.room; layers = t.layers.room; features = t.features.room; relations = vec_capacity t.relations - vec_len t.relations };
     } };
 
     ghost invariant = { λ t. t.universe ≡ universal_face };

@@ -1,16 +1,17 @@
 // One change of one row.
-ghost use Rattle.std.specs.Prelude.{◌≡◌, ℕ, ◌≤◌, ◌+◌, ◌<◌, ◌∷◌, [], option_map, IsTrue};
+ghost use Rattle.std.specs.Prelude.{◌≡◌, ℕ, ◌≤◌, ◌+◌, ◌<◌, ◌∷◌, [], option_map};
 ghost use Rattle.topo_model.specs.Writable.{IsOld, IsOldIfAny, CanWrite};
-ghost use Rattle.topo_model.specs.Writes.{id_number, dart_named, written};
-ghost use Rattle.topo_tables.specs.Room.{HasRoom, LeavesRoom, is_served};
+ghost use Rattle.topo_model.specs.Writes.{id_number, dart_named, row_named, written};
+ghost use Rattle.topo_tables.specs.Room.{HasRoom, LeavesRoom};
 ghost use Rattle.topo_base.specs.declared.rows.Counters.{Counters as NextIds};
 
 use crate::changes::{Bounds, Containing, Course, Next, Point, Side};
+use crate::relations;
 use crate::tables::Tables;
 use std::sync::ledger::Ledger;
 use topo_base::{
     Box4, Dart, EdgeId, EdgeRow, FaceId, FaceRow, FeatureId, FeatureRow, Grid, Hand, Kind, LayerId,
-    LayerRow, Line, Name, NodeId, NodeRow, RowDart, RowId, RowWrite, Steps,
+    LayerRow, Line, Name, NodeId, NodeRow, RelationRow, RowDart, RowId, RowWrite, Steps,
 };
 
 /// The number of an old id.
@@ -41,6 +42,21 @@ fn face_if_any(face: Option<RowId>) -> Option<FaceId>
     match face {
         None => None,
         Some(face) => Some(FaceId(number(face))),
+    }
+}
+
+/// The relation row of old ids.
+fn relation_row(feature: RowId, layer: RowId, element: RowId, element_type: u32) -> RelationRow
+    requires feature { IsOld feature }
+    requires layer { IsOld layer }
+    requires element { IsOld element }
+    ensures { (next : NextIds) → row_named next feature layer element element_type ≡ result }
+{
+    RelationRow {
+        topogeo_id: FeatureId(number(feature)),
+        layer_id: LayerId(number(layer)),
+        element_id: number(element),
+        element_type,
     }
 }
 
@@ -230,9 +246,27 @@ impl Tables {
         self.features.clear(number(feature));
     }
 
+    fn put_row(&mut self, feature: RowId, layer: RowId, element: RowId, element_type: u32)
+        requires can { CanWrite self.old.rows (RowWrite.AddRow feature layer element element_type) }
+        requires room { HasRoom self.old.room (RowWrite.AddRow feature layer element element_type ∷ []) }
+        ensures rows { self.new.rows ≡ written self.old.rows.next_ids self.old.rows (RowWrite.AddRow feature layer element element_type) }
+        ensures room { LeavesRoom (RowWrite.AddRow feature layer element element_type) self.old.room self.new.room }
+    {
+        let row = relation_row(feature, layer, element, element_type);
+        relations::put(&mut self.relations, row);
+    }
+
+    fn drop_row(&mut self, feature: RowId, layer: RowId, element: RowId, element_type: u32)
+        requires { CanWrite self.old.rows (RowWrite.DropRow feature layer element element_type) }
+        ensures rows { self.new.rows ≡ written self.old.rows.next_ids self.old.rows (RowWrite.DropRow feature layer element element_type) }
+        ensures room { LeavesRoom (RowWrite.DropRow feature layer element element_type) self.old.room self.new.room }
+    {
+        let row = relation_row(feature, layer, element, element_type);
+        relations::take_out(&mut self.relations, row);
+    }
+
     fn apply(&mut self, one: RowWrite)
         requires can { CanWrite self.old.rows one }
-        requires served { IsTrue (is_served one) }
         requires room { HasRoom self.old.room (one ∷ []) }
         ensures rows { self.new.rows ≡ written self.old.rows.next_ids self.old.rows one }
         ensures room { LeavesRoom one self.old.room self.new.room }
@@ -273,23 +307,37 @@ impl Tables {
             } => { self.put_layer(layer, level, child, kind, name) }
             RowWrite::AddFeature { feature, layer } => self.put_feature(feature, layer),
             RowWrite::DropFeature { feature } => self.drop_feature(feature),
-            RowWrite::AddRow { .. } | RowWrite::DropRow { .. } => unreachable!(),
+            RowWrite::AddRow {
+                feature,
+                layer,
+                element,
+                element_type,
+            } => { self.put_row(feature, layer, element, element_type) }
+            RowWrite::DropRow {
+                feature,
+                layer,
+                element,
+                element_type,
+            } => { self.drop_row(feature, layer, element, element_type) }
             RowWrite::Raise { .. } => {}
         }
     }
 
     /// Makes one change of one row, for which room was reserved: each id in it is old, what it names is
     /// there, and a row with an id of its own has its table's next id, which it raises by one. Takes at
-    /// most 6 steps, and no memory. Relation rows are not served yet, and a raised stamp changes nothing.
+    /// most 6 steps, and no memory: one step, and one more for the place of a relation row. A raised stamp
+    /// changes nothing.
     pub fn write<L: Ledger>(&mut self, one: RowWrite, steps: &mut Steps<L>)
         requires can { CanWrite self.old.rows one }
-        requires served { IsTrue (is_served one) }
         requires room { HasRoom self.old.room (one ∷ []) }
         ensures rows { self.new.rows ≡ written self.old.rows.next_ids self.old.rows one }
         ensures room { LeavesRoom one self.old.room self.new.room }
         ensures steps { (steps.old < steps.new) × (steps.new ≤ steps.old + 6) }
     {
-        steps.tick();
+        steps.tick(); // the row
+        if matches!(one, RowWrite::AddRow { .. } | RowWrite::DropRow { .. }) {
+            steps.tick(); // its place
+        }
         self.apply(one)
     }
 }

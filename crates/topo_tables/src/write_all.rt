@@ -1,8 +1,7 @@
-ghost use Rattle.std.specs.Prelude.{◌≡◌, ◌+◌, ◌*◌, ◌≤◌, IsTrue, length};
-ghost use Rattle.std.specs.List.{list_all};
+ghost use Rattle.std.specs.Prelude.{◌≡◌, ◌+◌, ◌*◌, ◌≤◌, length};
 ghost use Rattle.topo_model.specs.Writable.{CanWriteAll};
 ghost use Rattle.topo_model.specs.Writes.{all_written};
-ghost use Rattle.topo_tables.specs.Room.{HasRoom, is_served};
+ghost use Rattle.topo_tables.specs.Room.{HasRoom};
 
 use crate::tables::Tables;
 use crate::writes::Writes;
@@ -11,10 +10,9 @@ use topo_base::Steps;
 
 impl Tables {
     /// Makes the writes in order, for which room was reserved: each may be made after those before it.
-    /// Takes at most 6 steps a write, and no memory. Relation rows are not served yet.
+    /// Takes at most 6 steps a write, and no memory.
     pub fn write_all<L: Ledger>(&mut self, writes: Writes, steps: &mut Steps<L>)
         requires can { CanWriteAll self.old.rows.next_ids self.old.rows writes }
-        requires served { IsTrue (list_all is_served writes) }
         requires room { HasRoom self.old.room writes }
         ensures rows { self.new.rows ≡ all_written self.old.rows.next_ids self.old.rows writes }
         ensures steps { steps.new ≤ steps.old + 6 * length writes }

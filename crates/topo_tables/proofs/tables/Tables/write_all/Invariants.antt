@@ -1,9 +1,8 @@
-use Rattle.std.proofs.Common.{◌≡◌, ◌+◌, ◌*◌, ◌≤◌, IsTrue, length}
-use Rattle.std.specs.List.{list_all}
+use Rattle.std.proofs.Common.{◌≡◌, ◌+◌, ◌*◌, ◌≤◌, length}
 use Rattle.std.specs.Vec.Iter.{into_iter_items}
 use Rattle.topo_model.specs.Writable.{CanWriteAll}
 use Rattle.topo_model.specs.Writes.{all_written}
-use Rattle.topo_tables.specs.Room.{HasRoom, is_served}
+use Rattle.topo_tables.specs.Room.{HasRoom}
 use Rattle.topo_tables.proofs.tables.Tables.write_all.Given as goal
 
 -- the writes that are still to come may be made, and leave what all leave
@@ -11,7 +10,6 @@ abbrev pub invariant-loop-one : goal.invariant-loop-one
 invariant-loop-one g l = record {
   iterator : (goal.iterator-loop-one g).can_next l.one-iterator × (goal.iterator-loop-one g).is_finite l.one-iterator;
   can : CanWriteAll l.fn.self.rows.next_ids l.self.rows (into_iter_items l.one-iterator);
-  served : IsTrue (list_all is_served (into_iter_items l.one-iterator));
   room : HasRoom l.self.room (into_iter_items l.one-iterator);
   rest : all_written l.fn.self.rows.next_ids l.self.rows (into_iter_items l.one-iterator) ≡ all_written l.fn.self.rows.next_ids l.fn.self.rows l.fn.writes;
   counted : l.steps + 6 * length (into_iter_items l.one-iterator) ≤ l.fn.steps + 6 * length l.fn.writes;
