@@ -1,0 +1,7 @@
+pub mod Allowing
+pub mod Merging
+pub mod Order
+pub mod Putting
+pub mod Replacing
+pub mod SameFeatures
+pub mod Writing
