@@ -1,3 +1,4 @@
 pub mod Plans
 pub mod Planned
 pub mod Answered
+pub mod Drafted

@@ -5,8 +5,11 @@
 //! follow it. To find the writes is left to the planners, and to make them to whoever keeps the tables.
 #![tactic(auto)]
 
+mod copies;
+mod draft;
 mod end;
 mod plan;
 
+pub use draft::Draft;
 pub use end::PlanEnd;
 pub use plan::Plan;

@@ -1,0 +1,14 @@
+use Rattle.std.proofs.Common.{◌≡◌, ◌++◌}
+use Rattle.std.specs.Vec.Iter.{into_iter_items}
+use Rattle.topo_model.specs.Writable.{CanWriteAll}
+use Rattle.topo_model.specs.Writes.{all_written}
+use Rattle.read_set.proofs.draft.Draft.make_all.Given as goal
+
+-- the writes that are still to come may be made, and leave what all leave
+abbrev pub invariant-loop-one : goal.invariant-loop-one
+invariant-loop-one g l = record {
+  iterator : (goal.iterator-loop-one g).can_next l.one-iterator × (goal.iterator-loop-one g).is_finite l.one-iterator;
+  can : CanWriteAll l.fn.self.rows.next_ids l.self.rows (into_iter_items l.one-iterator);
+  rest : all_written l.fn.self.rows.next_ids l.self.rows (into_iter_items l.one-iterator) ≡ all_written l.fn.self.rows.next_ids l.fn.self.rows l.fn.writes;
+  behind : l.self.writes ++ into_iter_items l.one-iterator ≡ l.fn.self.writes ++ l.fn.writes;
+}
