@@ -1,0 +1,16 @@
+pub mod Ends
+pub mod RayLemmas
+pub mod Places
+pub mod Round
+pub mod Sorting
+pub mod Coming
+pub mod Half
+pub mod Following
+pub mod Meeting
+pub mod Apart
+pub mod Linking
+pub mod Added
+pub mod Linked
+pub mod Setting
+pub mod Writing
+pub mod RightLinks

@@ -1,0 +1,14 @@
+pub mod Ranks
+pub mod Lookups
+pub mod Orbits
+pub mod Walking
+pub mod Reaching
+pub mod Marking
+pub mod Dividing
+pub mod Inside
+pub mod HalfLines
+pub mod HalvesApart
+pub mod NextApart
+pub mod FaceBorders
+pub mod VerticesStay
+pub mod RowBorders

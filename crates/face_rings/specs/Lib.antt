@@ -1,0 +1,6 @@
+pub mod Border
+pub mod Rings
+pub mod FaceBorder
+pub mod RowBorder
+pub mod RingLaw
+pub mod Vertices

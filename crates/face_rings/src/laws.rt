@@ -1,0 +1,25 @@
+//! The laws of rings, each carried by a function that does nothing.
+
+ghost use Rattle.face_rings.specs.FaceBorder.{RingsAreRight};
+ghost use Rattle.face_rings.specs.RingLaw.{RingsDivide};
+ghost use Rattle.face_rings.specs.Vertices.{SegmentsStay};
+
+/// On a plain drawing whose rings have one face each, the border of a face meets the conditions of
+/// `FaceContent::of_rows`, `ring_of` and `face_rings`: its darts ascend, next leads from each to one of
+/// them, and from no two to one. Their answers are the rings of the half-edges that have the face on
+/// their left.
+pub fn face_rings_law()
+    ensures { RingsAreRight }
+{}
+
+/// Where next leads from no two darts of a border to one, the ring of a dart comes back to it and has
+/// no dart twice, and each dart is in exactly one of the rings.
+pub fn ring_law()
+    ensures { RingsDivide }
+{}
+
+/// Each edit whose own line has two vertices or more keeps the drawing one of such lines, as
+/// `face_rings_law` asks. So the drawing of every legal history is.
+pub fn segments_law()
+    ensures { SegmentsStay }
+{}
