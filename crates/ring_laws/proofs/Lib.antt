@@ -1,0 +1,15 @@
+pub mod Faceless
+pub mod Turning
+pub mod Inserting
+pub mod WithEdge
+pub mod WithoutEdge
+pub mod RingParts
+pub mod DividedSides
+pub mod Known
+pub mod KnownStays
+pub mod RingsStaying
+pub mod Removing
+pub mod MergedSides
+pub mod Alike
+pub mod SplitSides
+pub mod HealedSides

@@ -1,0 +1,203 @@
+-- A removed edge: the rings at its two sides become rings of one face, and faces and nodes stay known.
+use Rattle.std.proofs.Common.{◌≡◌, ℕ, refl, sym, ◌∙◌, ap, subst, ⊎_elim, Bool, true, false, not, cond, ◌&&◌, ◌||◌, List, [], ◌∷◌, ◌++◌, map, option_map, Option, Some, None}
+use Rattle.std.specs.Prelude.{flat_map, ◌==◌}
+use Rattle.std.specs.List.{Contains, list_any}
+use Rattle.std.proofs.lemmas.Bool.{and_parts, and_from, eqb-true, eq-eqb, false≢true}
+use Rattle.std.proofs.lemmas.List.Elements.{Contains-push, Contains-append_left}
+use Rattle.topo_base.specs.declared.rows.NodeRow.{NodeRow}
+use Rattle.topo_base.specs.declared.rows.Counters.{Counters}
+use Rattle.topo_model.specs.Drawing.{Drawing, Edge, edge_id_of, has_face, is_end_of, is_isolated}
+use Rattle.topo_model.specs.HalfEdge.{HalfEdge, forward_of, backward_of, both_ways, half_edges, twin, dart_of}
+use Rattle.topo_model.specs.Relations.{is_among}
+use Rattle.topo_model.specs.RemoveEdge.{renamed, renamed_edge, renamed_node, without_edge, without_faces}
+use Rattle.topo_model.specs.Rows.{without_row}
+use Rattle.topo_model.specs.Star.{next_of}
+use Rattle.topo_model.specs.Subdivision.{is_face_known, is_node_known, rings_have_one_face}
+use Rattle.topo_model.proofs.Members.{contains-map, contains-mapped, contains-filter}
+use Rattle.face_rings.proofs.FaceBorders.{half_by_dart}
+use Rattle.face_rings.proofs.HalfLines.{HasPlainLines}
+use Rattle.face_rings.proofs.HalvesApart.{half_of, forward_there, backward_there, one_edge}
+use Rattle.face_rings.proofs.NextApart.{next_there}
+use Rattle.face_rings.proofs.Ranks.{by_bool}
+use Rattle.ring_laws.proofs.Faceless.{faceless, next_faceless}
+use Rattle.ring_laws.proofs.DividedSides.{dart_faceless}
+use Rattle.ring_laws.proofs.Known.{any_in, any_out, any_same, IsKnown, isolated_if, not_isolated, none_ends}
+use Rattle.ring_laws.proofs.KnownStays.{is_listed}
+use Rattle.ring_laws.proofs.Removing.{joined_without}
+use Rattle.ring_laws.proofs.Turning.{AreJoined, next_turns, lefts_stay}
+use Rattle.ring_laws.proofs.WithoutEdge.{kept_edge, was_edge}
+
+-- the drawing without the edge, and that with the faces that are one
+abbrev pub lessened : Drawing → Edge → Drawing
+lessened S e = record S { edges = without_row edge_id_of S.edges e.edge_id }
+
+abbrev pub merged_with : Drawing → Edge → List ℕ → ℕ → List ℕ → Counters → Drawing
+merged_with S e gone kept faces ids = record (without_edge S e gone kept faces) { next_ids = ids }
+
+-- ---- the rings
+sides_faceless : (gone : List ℕ) (kept : ℕ) (edges : List Edge) → map faceless (flat_map both_ways (map (renamed_edge gone kept) edges)) ≡ map faceless (flat_map both_ways edges)
+sides_faceless gone kept [] = refl
+sides_faceless gone kept (e ∷ edges) = ap (λ (hs : List HalfEdge). faceless (forward_of e) ∷ faceless (backward_of e) ∷ hs) (sides_faceless gone kept edges)
+
+record IsRenamed (gone : List ℕ) (kept : ℕ) (edges : List Edge) (h : HalfEdge) : Type 0 where
+  half : HalfEdge
+  there : Contains (flat_map both_ways edges) half
+  same : faceless h ≡ faceless half
+  left : h.on_left ≡ renamed gone kept half.on_left
+
+renamed_half : (gone : List ℕ) (kept : ℕ) (edges : List Edge) (h : HalfEdge) → Contains (flat_map both_ways (map (renamed_edge gone kept) edges)) h → IsRenamed gone kept edges h
+renamed_half gone kept edges h c =
+    let r = half_of (map (renamed_edge gone kept) edges) h c in
+    let (e, (ce, is)) = contains-mapped (renamed_edge gone kept) r.edge edges r.there in
+    ⊎_elim
+    (λ (p : forward_of r.edge ≡ h). subst (IsRenamed gone kept edges) (ap forward_of is ∙ p) (record { half = forward_of e; there = forward_there edges e ce; same = refl; left = refl }))
+    (λ (p : backward_of r.edge ≡ h). subst (IsRenamed gone kept edges) (ap backward_of is ∙ p) (record { half = backward_of e; there = backward_there edges e ce; same = refl; left = refl }))
+    r.way
+
+pub merged_rings : (S : Drawing) (e : Edge) (gone : List ℕ) (kept : ℕ) (faces : List ℕ) (ids : Counters) → HasPlainLines S → HasPlainLines (lessened S e) → Contains S.edges e → renamed gone kept e.left_face ≡ renamed gone kept e.right_face
+    → AreJoined (half_edges S) → HasPlainLines (merged_with S e gone kept faces ids) → rings_have_one_face (merged_with S e gone kept faces ids) ≡ true
+merged_rings S e gone kept faces ids good less ce same joined more = lefts_stay (merged_with S e gone kept faces ids) each
+  where
+    each : (h : HalfEdge) → Contains (half_edges (merged_with S e gone kept faces ids)) h → h.on_left ≡ (next_of (half_edges (merged_with S e gone kept faces ids)) h).on_left
+    each h c =
+        let U = merged_with S e gone kept faces ids in
+        let W = lessened S e in
+        let ks = half_edges U in
+        let a = renamed_half gone kept W.edges h c in
+        let b = renamed_half gone kept W.edges (next_of ks h) (next_there U h more c) in
+        let lists = sides_faceless gone kept W.edges in
+        let halves = a.same in
+        let darts : dart_of (next_of ks h) ≡ dart_of (next_of (half_edges W) a.half) =
+        sym (next_faceless ks h) ∙ (λ i. dart_of (next_of (lists i) (halves i))) ∙ next_faceless (half_edges W) a.half in
+        let one = half_by_dart W b.half (next_of (half_edges W) a.half) less b.there (next_there W a.half less a.there) (sym (dart_faceless (next_of ks h) b.half b.same) ∙ darts) in
+        let on = joined_without S e (renamed gone kept) good ce same joined (twin a.half) (next_of (half_edges W) a.half) (next_turns W a.half less a.there) in
+        a.left ∙ on ∙ ap (λ (x : HalfEdge). renamed gone kept x.on_left) (sym one) ∙ sym b.left
+
+-- ---- the faces
+-- face 0, the face that stays and all but those that go are listed
+pub record AreMerged (S : Drawing) (gone : List ℕ) (kept : ℕ) (faces : List ℕ) : Type 0 where
+  pub zero : is_listed faces 0 ≡ true
+  pub stays : is_listed faces kept ≡ true
+  pub others : (g : ℕ) → has_face S g ≡ true → is_among g gone ≡ false → is_listed faces g ≡ true
+
+renamed_listed : (S : Drawing) (gone : List ℕ) (kept : ℕ) (faces : List ℕ) (g : ℕ) → AreMerged S gone kept faces → has_face S g ≡ true → is_listed faces (renamed gone kept g) ≡ true
+renamed_listed S gone kept faces g m there = by_test (is_among g gone) refl
+  where
+    by_test : (t : Bool) → is_among g gone ≡ t → is_listed faces (cond t kept g) ≡ true
+    by_test true e = m.stays
+    by_test false e = m.others g there e
+
+renamed_known : (S U : Drawing) (gone : List ℕ) (kept : ℕ) (c : Option ℕ) (i j : Bool) → ((g : ℕ) → has_face S g ≡ true → has_face U (renamed gone kept g) ≡ true) → (i ≡ true → j ≡ true) → (i ≡ false → j ≡ false)
+    → is_face_known S c i ≡ true → is_face_known U (option_map (renamed gone kept) c) j ≡ true
+renamed_known S U gone kept None i j listed on off h = ap not (off (no_more i h))
+  where
+    no_more : (b : Bool) → not b ≡ true → b ≡ false
+    no_more true h = absurd (false≢true h)
+    no_more false h = refl
+renamed_known S U gone kept (Some f) i j listed on off h = let both = and_parts i (has_face S f) h in and_from j (has_face U (renamed gone kept f)) (on both.0) (listed f both.1)
+
+pub merged_known : (S : Drawing) (e : Edge) (gone : List ℕ) (kept : ℕ) (faces : List ℕ) (ids : Counters) → HasPlainLines S → Contains S.edges e → AreMerged S gone kept faces → IsKnown S → IsKnown (merged_with S e gone kept faces ids)
+merged_known S e gone kept faces ids good ce m known = record {
+  universe = m.zero;
+  sides = λ x c.
+      let (y, (cy, is)) = contains-mapped (renamed_edge gone kept) x (without_row edge_id_of S.edges e.edge_id) c in
+      let was = known.sides y (was_edge S.edges e y cy).0 in
+      subst (λ (z : Edge). (is_listed faces z.left_face ≡ true) × (is_listed faces z.right_face ≡ true)) is
+      (renamed_listed S gone kept faces y.left_face m was.0, renamed_listed S gone kept faces y.right_face m was.1);
+  nodes = λ n c.
+      let (r, (cr, is)) = contains-mapped (renamed_node (lessened S e) e gone kept) n S.nodes c in
+      subst (λ (x : NodeRow). is_node_known (merged_with S e gone kept faces ids) x ≡ true) is (by_test r (is_end_of r.node_id e && is_isolated (lessened S e) r.node_id) refl (known.nodes r cr));
+}
+  where
+    sides_aside : (n : ℕ) → is_isolated (lessened S e) n ≡ is_isolated (merged_with S e gone kept faces ids) n
+    sides_aside n = ap not (any_same (is_end_of n) (is_end_of n) ((lessened S e).edges) ((merged_with S e gone kept faces ids).edges)
+        (λ x c t. any_in (is_end_of n) ((merged_with S e gone kept faces ids).edges) (renamed_edge gone kept x) (contains-map (renamed_edge gone kept) x ((lessened S e).edges) c) t)
+        (λ x c t. let (y, (cy, is)) = contains-mapped (renamed_edge gone kept) x ((lessened S e).edges) c in any_in (is_end_of n) ((lessened S e).edges) y cy (subst (λ (z : Edge). is_end_of n z ≡ true) (sym is) t)))
+
+    still_lone : (n : ℕ) → is_isolated S n ≡ true → is_isolated (lessened S e) n ≡ true
+    still_lone n lone = isolated_if (lessened S e) n (λ x c t. none_ends S n lone x (was_edge S.edges e x c).0 t)
+
+    still_joined : (n : ℕ) → (is_end_of n e && is_isolated (lessened S e) n) ≡ false → is_isolated S n ≡ false → is_isolated (lessened S e) n ≡ false
+    still_joined n off some =
+        let (x, (c, t)) = any_out (is_end_of n) S.edges (not_out (list_any (is_end_of n) S.edges) some) in
+        ⊎_elim
+        (λ (p : (x.edge_id == e.edge_id) ≡ true).
+        second_off (is_end_of n e) (is_isolated (lessened S e) n) (subst (λ (y : Edge). is_end_of n y ≡ true) (one_edge S x e good c ce (eqb-true x.edge_id e.edge_id p)) t) off)
+        (λ (p : (x.edge_id == e.edge_id) ≡ false). not_isolated (lessened S e) n x (kept_edge S.edges e x c (λ q. false≢true (sym p ∙ eq-eqb x.edge_id e.edge_id q))) t)
+        (by_bool (x.edge_id == e.edge_id))
+      where
+        not_out : (b : Bool) → not b ≡ false → b ≡ true
+        not_out true h = refl
+        not_out false h = absurd (false≢true (sym h))
+
+        second_off : (b c : Bool) → b ≡ true → (b && c) ≡ false → c ≡ false
+        second_off true c h k = k
+        second_off false c h k = absurd (false≢true h)
+
+    by_test : (r : NodeRow) (t : Bool) → (is_end_of r.node_id e && is_isolated (lessened S e) r.node_id) ≡ t → is_node_known S r ≡ true
+        → is_node_known (merged_with S e gone kept faces ids) (cond t (record r { containing_face = Some kept }) (record r { containing_face = option_map (renamed gone kept) r.containing_face })) ≡ true
+    by_test r true t h =
+        and_from (is_isolated (merged_with S e gone kept faces ids) r.node_id) (is_listed faces kept)
+        (sym (sides_aside r.node_id) ∙ (and_parts (is_end_of r.node_id e) (is_isolated (lessened S e) r.node_id) t).1) m.stays
+    by_test r false t h =
+        renamed_known S (merged_with S e gone kept faces ids) gone kept r.containing_face (is_isolated S r.node_id) (is_isolated (merged_with S e gone kept faces ids) r.node_id)
+        (λ g there. renamed_listed S gone kept faces g m there)
+        (λ lone. sym (sides_aside r.node_id) ∙ still_lone r.node_id lone)
+        (λ some. sym (sides_aside r.node_id) ∙ still_joined r.node_id t some) h
+
+-- ---- which faces go
+listed_left : (S : Drawing) (gone more : List ℕ) (g : ℕ) → has_face S g ≡ true → is_among g gone ≡ false → is_listed (without_faces S gone ++ more) g ≡ true
+listed_left S gone more g there off =
+    let (x, (c, t)) = any_out (λ x. x == g) S.faces there in
+    let same = eqb-true x g t in
+    any_in (λ x. x == g) (without_faces S gone ++ more) x
+    (Contains-append_left (without_faces S gone) more x (contains-filter (λ f. not (is_among f gone)) x S.faces c (ap not (ap (λ f. is_among f gone) same ∙ off)))) t
+
+listed_less : (S : Drawing) (gone : List ℕ) (g : ℕ) → has_face S g ≡ true → is_among g gone ≡ false → is_listed (without_faces S gone) g ≡ true
+listed_less S gone g there off =
+    let (x, (c, t)) = any_out (λ x. x == g) S.faces there in
+    let same = eqb-true x g t in
+    any_in (λ x. x == g) (without_faces S gone) x (contains-filter (λ f. not (is_among f gone)) x S.faces c (ap not (ap (λ f. is_among f gone) same ∙ off))) t
+
+pub none_merged : (S : Drawing) (f : ℕ) → IsKnown S → has_face S f ≡ true → AreMerged S [] f S.faces
+none_merged S f known there = record { zero = known.universe; stays = there; others = λ g t e. t }
+
+-- not among those that go
+off_one : (g goes : ℕ) → (goes == g) ≡ false → is_among g (goes ∷ []) ≡ false
+off_one g goes e = ap (λ t. t || false) e
+
+pub one_merged : (S : Drawing) (goes kept : ℕ) → IsKnown S → has_face S kept ≡ true → (goes == 0) ≡ false → (goes == kept) ≡ false → AreMerged S (goes ∷ []) kept (without_faces S (goes ∷ []))
+one_merged S goes kept known there some differ = record {
+  zero = listed_less S (goes ∷ []) 0 known.universe (off_one 0 goes some);
+  stays = listed_less S (goes ∷ []) kept there (off_one kept goes differ);
+  others = λ g t e. listed_less S (goes ∷ []) g t e;
+}
+
+pub both_merged : (S : Drawing) (l r new : ℕ) → IsKnown S → (l == 0) ≡ false → (r == 0) ≡ false → AreMerged S (l ∷ r ∷ []) new (without_faces S (l ∷ r ∷ []) ++ new ∷ [])
+both_merged S l r new known some other = record {
+  zero = listed_left S (l ∷ r ∷ []) (new ∷ []) 0 known.universe (neither (l == 0) (r == 0) some other);
+  stays = any_in (λ x. x == new) (without_faces S (l ∷ r ∷ []) ++ new ∷ []) new (Contains-push (without_faces S (l ∷ r ∷ [])) new) (eq-eqb new new refl);
+  others = λ g t e. listed_left S (l ∷ r ∷ []) (new ∷ []) g t e;
+}
+  where
+    neither : (a b : Bool) → a ≡ false → b ≡ false → (a || (b || false)) ≡ false
+    neither true b h k = h
+    neither false true h k = k
+    neither false false h k = refl
+
+-- the two sides are one then
+pub one_renamed : (goes kept : ℕ) → renamed (goes ∷ []) kept kept ≡ renamed (goes ∷ []) kept goes
+one_renamed goes kept = either_way (is_among kept (goes ∷ [])) ∙ sym (ap (λ t. cond t kept goes) (ap (λ t. t || false) (eq-eqb goes goes refl)))
+  where
+    either_way : (t : Bool) → cond t kept kept ≡ kept
+    either_way true = refl
+    either_way false = refl
+
+pub both_renamed : (l r new : ℕ) → renamed (l ∷ r ∷ []) new l ≡ renamed (l ∷ r ∷ []) new r
+both_renamed l r new =
+    ap (λ t. cond (t || ((r == l) || false)) new l) (eq-eqb l l refl)
+    ∙ sym (either_way (l == r))
+  where
+    either_way : (t : Bool) → cond (t || ((r == r) || false)) new r ≡ new
+    either_way true = refl
+    either_way false = ap (λ t. cond (t || false) new r) (eq-eqb r r refl)
