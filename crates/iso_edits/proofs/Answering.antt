@@ -1,9 +1,6 @@
 -- What is answered where an edit is accepted.
 use Rattle.std.proofs.Common.{◌≡◌, refl, List, Result, Ok, Err, sym, subst, ap, ◌∙◌, Option, Some, Bor}
 use Rattle.std.specs.Option.{option_copied}
-use Rattle.std.proofs.Common.{true, IsTrue}
-use Rattle.std.specs.List.{list_all}
-use Rattle.topo_tables.specs.Room.{is_served}
 use Rattle.std.specs.Result.{IfOk, IfErr, IsOk}
 use Rattle.topo_base.specs.declared.edit.Edit.{Edit}
 use Rattle.topo_base.specs.declared.element.Element.{Element}
@@ -25,8 +22,3 @@ answers_with S e ws ids (Err Memory) plan w i m = subst IsOk (sym plan.accepted)
 -- the row that was found
 pub found_row : {R : Type 0} (found : Option (Bor R)) (row : Bor R) (wanted : Option R) → found ≡ Some row → option_copied found ≡ wanted → wanted ≡ Some (row.now)
 found_row found row wanted is e = sym e ∙ ap option_copied is
-
--- a draft of writes that the tables take so far
-pub served_by : (ws : List RowWrite) (r : Result Draft DraftEnd) → list_all is_served ws ≡ true → IfOk r (λ (d : Draft). d.writes ≡ ws) → IfOk r (λ (d : Draft). IsTrue (list_all is_served d.writes))
-served_by ws (Ok d) h w = ap (list_all is_served) w ∙ h
-served_by ws (Err end) h w = tt

@@ -1,17 +1,18 @@
 -- The row writes of the edits of isolated edges.
-use Rattle.std.proofs.Common.{◌≡◌, ◌≢◌, ℕ, ◌+◌, ◌<◌, ◌^◌, ◌==◌, ◌&&◌, ◌||◌, List, [], ◌∷◌, refl, sym, ap, ◌∙◌, subst, Option, Some, None, Ok, IsTrue, Bool, true, false, not, eqb, eqb-true, eq-eqb, map, unwrap_or, ⊎_elim}
+use Rattle.std.proofs.Common.{◌≡◌, ◌≢◌, ℕ, ◌+◌, ◌<◌, ◌^◌, ◌==◌, ◌&&◌, ◌||◌, List, [], ◌∷◌, ◌++◌, refl, sym, ap, ◌∙◌, subst, Option, Some, None, Ok, IsTrue, Bool, true, false, not, eqb, eqb-true, eq-eqb, map, unwrap_or, ⊎_elim}
 use Rattle.std.specs.List.{list_any, flat_map, Contains}
 use Rattle.std.specs.Option.{option_eq}
 use Rattle.std.proofs.lemmas.Bool.{or_right}
 use Rattle.topo_base.specs.Point.{Point}
 use Rattle.topo_base.specs.declared.rows.NodeRow.{NodeRow}
+use Rattle.topo_base.specs.declared.rows.Box4.{Box4}
 use Rattle.topo_base.specs.declared.rows.EdgeRow.{EdgeRow}
 use Rattle.topo_base.specs.declared.edit.Edit.TheVariants.{AddIsoEdge, RemoveIsoEdge}
 use Rattle.topo_base.specs.declared.write.RowId.TheVariants.{Old}
 use Rattle.topo_base.specs.declared.write.RowWrite.{RowWrite}
 use Rattle.topo_base.specs.declared.write.RowWrite.TheVariants.{AddEdge, DropEdge, SetContaining}
 use Rattle.topo_model.specs.Blocked.{is_line_blocked, goes_between}
-use Rattle.topo_model.specs.Drawing.{Drawing, Edge, node_id_of, edge_id_of, node_at, edge_at, is_end_of, is_isolated, has_only}
+use Rattle.topo_model.specs.Drawing.{Drawing, Edge, node_id_of, edge_id_of, node_at, edge_at, is_end_of, is_isolated, has_only, has_face}
 use Rattle.topo_model.specs.HalfEdge.{both_ways}
 use Rattle.topo_model.specs.IsoEdits.{with_edge, put_in_face, is_in_feature, is_isolated_edge}
 use Rattle.topo_model.specs.Line.{is_simple}
@@ -20,11 +21,14 @@ use Rattle.read_set.specs.Plans.{IsPlanFor}
 use Rattle.topo_model.specs.Relations.{edge_type}
 use Rattle.topo_model.specs.Rows.{has_row, without_row}
 use Rattle.topo_model.specs.Step.{step}
-use Rattle.topo_model.specs.Tables.{tables_of, edge_row, face_row}
+use Rattle.topo_model.specs.Tables.{Tables, tables_of, edge_row, face_box}
 use Rattle.topo_model.specs.Writable.{has_face_row}
-use Rattle.topo_model.specs.Writes.{edge_row_id}
+use Rattle.topo_model.specs.Writes.{edge_row_id, all_written}
+use Rattle.iso_edits.specs.Bounds.{box_with, box_write, other_write, without}
+use Rattle.iso_edits.proofs.Boxes.{boxed, boxed_there, box_written, other_written, boxes_come, boxes_go, can_box, can_more, can_other, written_more}
+use Rattle.iso_edits.proofs.IsolatedNodes.{face_there}
 use Rattle.iso_edits.proofs.IsolatedLinks.{rows_comes, rows_goes}
-use Rattle.iso_edits.proofs.IsolatedTests.{found_id, found_there, has_row-change}
+use Rattle.edit_conditions.proofs.IsolatedTests.{found_id, found_there, has_row-change}
 use Rattle.topo_model.proofs.ListTests.{contains_cases, contains_none}
 use Rattle.topo_model.proofs.Members.{contains-found, pairwise-same, ids_differ}
 use Rattle.topo_model.proofs.Ordering.{InOrder}
@@ -43,32 +47,40 @@ still_there : (nodes : List NodeRow) (face : Option ℕ) (m n : ℕ) → IsTrue 
 still_there nodes face m n there = has_row-change node_id_of nodes m n (λ row. record row { containing_face = face }) (λ r. refl) ∙ there
 
 -- the edge that comes, and its writes
-abbrev pub coming_edge : Drawing → NodeRow → NodeRow → List Point → Edge
-coming_edge S a b line = record { edge_id = S.next_ids.edge; start_node = a.node_id; end_node = b.node_id; left_face = 0; right_face = 0; geom = line }
+abbrev pub coming_edge : Drawing → NodeRow → NodeRow → List Point → ℕ → Edge
+coming_edge S a b line f = record { edge_id = S.next_ids.edge; start_node = a.node_id; end_node = b.node_id; left_face = f; right_face = f; geom = line }
 
-abbrev pub edge_writes : ℕ → ℕ → ℕ → List Point → List RowWrite
-edge_writes edge a b line =
-    AddEdge (Old edge) (Old a) (Old b) (record { edge = Old edge; forward = false }) (record { edge = Old edge; forward = true }) (Old 0) (Old 0) line
+abbrev pub edge_writes : ℕ → ℕ → ℕ → ℕ → List Point → List RowWrite
+edge_writes edge a b f line =
+    AddEdge (Old edge) (Old a) (Old b) (record { edge = Old edge; forward = false }) (record { edge = Old edge; forward = true }) (Old f) (Old f) line
     ∷ SetContaining (Old b) None ∷ SetContaining (Old a) None ∷ []
 
-pub edge_comes : (S : Drawing) (start end : ℕ) (a b : NodeRow) (line : List Point) → S.faces ≡ 0 ∷ [] → S.next_ids.edge + 1 < 2 ^ 32
+pub edge_comes : (S : Drawing) (start end : ℕ) (a b : NodeRow) (line : List Point) (f : ℕ) (bounds : Option Box4) → has_face S f ≡ true → bounds ≡ box_with line (without S.next_ids.edge S) f
+    → InOrder edge_id_of 0 S.next_ids.edge S.edges → S.next_ids.edge + 1 < 2 ^ 32
     → node_at S start ≡ Some a → node_at S end ≡ Some b → eqb a.node_id b.node_id ≡ false → is_isolated S a.node_id ≡ true → is_isolated S b.node_id ≡ true
-    → step S (AddIsoEdge start end line) ≡ Ok (record { drawing = with_edge S a b line 0; ids = the_edge S.next_ids.edge ∷ [] })
-    → IsPlanFor S (AddIsoEdge start end line) (edge_writes S.next_ids.edge a.node_id b.node_id line) (the_edge S.next_ids.edge ∷ [])
-edge_comes S start end a b line one fits found_a found_b differ lone_a lone_b done =
-    let e = coming_edge S a b line in
+    → step S (AddIsoEdge start end line) ≡ Ok (record { drawing = with_edge S a b line f; ids = the_edge S.next_ids.edge ∷ [] })
+    → IsPlanFor S (AddIsoEdge start end line) (edge_writes S.next_ids.edge a.node_id b.node_id f line ++ box_write f bounds) (the_edge S.next_ids.edge ∷ [])
+edge_comes S start end a b line f bounds listed is ordered fits found_a found_b differ lone_a lone_b done =
+    let e = coming_edge S a b line f in
+    let n = S.next_ids in
+    let T = with_edge S a b line f in
+    let ws = edge_writes S.next_ids.edge a.node_id b.node_id f line in
     let there_a = node_there S start a found_a in
     let there_b = node_there S end b found_b in
-    let face : IsTrue (has_face_row (tables_of S) 0) = rw one refl in
+    let face = face_there S f listed in
     let itself = or_right (has_row edge_row_id (tables_of S).edges S.next_ids.edge) (eqb S.next_ids.edge S.next_ids.edge) (eq-eqb S.next_ids.edge S.next_ids.edge refl) in
     let edges = rows_comes S.edges e (none_there (list_any (is_end_of a.node_id) S.edges) lone_a) (none_there (list_any (is_end_of b.node_id) S.edges) lone_b) differ in
-    let faces : map (face_row S) S.faces ≡ map (face_row (with_edge S a b line 0)) S.faces = rw one refl in
+    let faces = boxes_come S T e f bounds refl ordered refl refl is in
+    let t = all_written n (tables_of S) ws in
     record {
-      done = record { drawing = with_edge S a b line 0; ids = the_edge S.next_ids.edge ∷ [] };
+      done = record { drawing = T; ids = the_edge S.next_ids.edge ∷ [] };
       accepted = done;
       named = refl;
-      writable = (((refl, fits), there_a, there_b, itself, itself, face, face), ((there_b, tt), ((still_there S.nodes None b.node_id a.node_id there_a, tt), tt)));
-      tables = λ i. record (tables_of (with_edge S a b line 0)) { edges = edges i; faces = faces i };
+      writable =
+          can_more n (tables_of S) ws (box_write f bounds)
+          (((refl, fits), there_a, there_b, itself, itself, face, face), ((there_b, tt), ((still_there S.nodes None b.node_id a.node_id there_a, tt), tt)))
+          (can_box n t f bounds face);
+      tables = written_more n (tables_of S) ws (box_write f bounds) ∙ box_written n t f bounds ∙ (λ i. record (tables_of T) { edges = edges i; faces = faces i });
     }
 
 -- ---- the edge that goes
@@ -97,8 +109,8 @@ one_of_id S e y ordered ce cy same =
     let id : y.edge_id ≡ e.edge_id = eqb-true y.edge_id e.edge_id same in
     pairwise-same (λ (r s : Edge). edge_id_of r ≢ edge_id_of s) S.edges y e (ids_differ edge_id_of 0 S.next_ids.edge S.edges ordered) cy ce (λ f. f id) (λ f. f (sym id))
 
-abbrev pub gone_writes : ℕ → ℕ → ℕ → List RowWrite
-gone_writes edge a b = DropEdge (Old edge) ∷ SetContaining (Old b) (Some (Old 0)) ∷ SetContaining (Old a) (Some (Old 0)) ∷ []
+abbrev pub gone_writes : ℕ → ℕ → ℕ → ℕ → List RowWrite
+gone_writes edge a b f = DropEdge (Old edge) ∷ SetContaining (Old b) (Some (Old f)) ∷ SetContaining (Old a) (Some (Old f)) ∷ []
 
 has_mapped : (f : Edge → EdgeRow) (edges : List Edge) (n : ℕ) → ((x : Edge) → edge_row_id (f x) ≡ x.edge_id) → has_row edge_row_id (map f edges) n ≡ has_row edge_id_of edges n
 has_mapped f [] n keeps = refl
@@ -111,32 +123,52 @@ without_edge S e face =
       edges = without_row edge_id_of S.edges e.edge_id;
     }
 
-pub edge_goes : (S : Drawing) (n : ℕ) (e : Edge) → S.faces ≡ 0 ∷ [] → InOrder edge_id_of 0 S.next_ids.edge S.edges → edge_at S n ≡ Some e
+pub edge_goes : (S : Drawing) (n : ℕ) (e : Edge) (left right : Option Box4) → has_face S e.left_face ≡ true → has_face S e.right_face ≡ true
+    → left ≡ face_box (without e.edge_id S) e.left_face → right ≡ face_box (without e.edge_id S) e.right_face → InOrder edge_id_of 0 S.next_ids.edge S.edges → edge_at S n ≡ Some e
     → IsTrue (has_row node_id_of S.nodes e.start_node) → IsTrue (has_row node_id_of S.nodes e.end_node) → has_only S e.start_node e.edge_id e.edge_id ≡ true → has_only S e.end_node e.edge_id e.edge_id ≡ true
-    → step S (RemoveIsoEdge n) ≡ Ok (record { drawing = without_edge S e 0; ids = the_edge e.edge_id ∷ [] })
-    → IsPlanFor S (RemoveIsoEdge n) (gone_writes e.edge_id e.start_node e.end_node) (the_edge e.edge_id ∷ [])
-edge_goes S n e one ordered found there_a there_b only_a only_b done =
+    → step S (RemoveIsoEdge n) ≡ Ok (record { drawing = without_edge S e e.left_face; ids = the_edge e.edge_id ∷ [] })
+    → IsPlanFor S (RemoveIsoEdge n) (gone_writes e.edge_id e.start_node e.end_node e.left_face ++ (box_write e.left_face left ++ other_write e.left_face e.right_face right)) (the_edge e.edge_id ∷ [])
+edge_goes S n e left right on_left on_right is_left is_right ordered found there_a there_b only_a only_b done =
+    let next = S.next_ids in
+    let l = e.left_face in
+    let r = e.right_face in
+    let T = without_edge S e l in
+    let ws = gone_writes e.edge_id e.start_node e.end_node l in
     let here = (contains-found (λ (x : Edge). edge_id_of x == n) e S.edges found).0 in
-    let face : IsTrue (has_face_row (tables_of S) 0) = rw one refl in
+    let face = face_there S l on_left in
     let there : IsTrue (has_row edge_id_of S.edges e.edge_id) = subst (λ k. IsTrue (has_row edge_id_of S.edges k)) (sym (found_id edge_id_of S.edges n e found)) (found_there edge_id_of S.edges n e found) in
-    let edges = rows_goes S.edges e (λ y c same. one_of_id S e y ordered here c same) (λ x c other. (only_end S e.start_node e.edge_id x only_a c other, only_end S e.end_node e.edge_id x only_b c other)) in
-    let faces : map (face_row S) S.faces ≡ map (face_row (without_edge S e 0)) S.faces = rw one refl in
+    let only : (y : Edge) → Contains S.edges y → eqb y.edge_id e.edge_id ≡ true → y ≡ e = λ y c same. one_of_id S e y ordered here c same in
+    let edges = rows_goes S.edges e only (λ x c other. (only_end S e.start_node e.edge_id x only_a c other, only_end S e.end_node e.edge_id x only_b c other)) in
+    let faces = boxes_go S T e left right refl only is_left is_right in
+    let t = all_written next (tables_of S) ws in
+    let u : Tables = record t { faces = boxed l left t.faces } in
+    let still : IsTrue (has_face_row (all_written next t (box_write l left)) r) =
+    subst (λ (v : Tables). IsTrue (has_face_row v r)) (sym (box_written next t l left)) (boxed_there t.faces l r left ∙ face_there S r on_right) in
     record {
-      done = record { drawing = without_edge S e 0; ids = the_edge e.edge_id ∷ [] };
+      done = record { drawing = T; ids = the_edge e.edge_id ∷ [] };
       accepted = done;
       named = refl;
-      writable = (has_mapped (edge_row (flat_map both_ways S.edges)) S.edges e.edge_id (λ x. refl) ∙ there, ((there_b, face), ((still_there S.nodes (Some 0) e.end_node e.start_node there_a, face), tt)));
-      tables = λ i. record (tables_of (without_edge S e 0)) { edges = edges i; faces = faces i };
+      writable =
+          can_more next (tables_of S) ws (box_write l left ++ other_write l r right)
+          (has_mapped (edge_row (flat_map both_ways S.edges)) S.edges e.edge_id (λ x. refl) ∙ there, ((there_b, face), ((still_there S.nodes (Some l) e.end_node e.start_node there_a, face), tt)))
+          (can_more next t (box_write l left) (other_write l r right) (can_box next t l left face) (can_other next (all_written next t (box_write l left)) l r right still));
+      tables =
+          written_more next (tables_of S) ws (box_write l left ++ other_write l r right)
+          ∙ written_more next t (box_write l left) (other_write l r right)
+          ∙ ap (λ (v : Tables). all_written next v (other_write l r right)) (box_written next t l left)
+          ∙ other_written next u l r right
+          ∙ (λ i. record (tables_of T) { edges = edges i; faces = faces i });
     }
 
--- ---- where no rule refuses, with face 0 alone
-pub edge_comes_where : (S : Drawing) (start end : ℕ) (a b : NodeRow) (line : List Point) → node_at S start ≡ Some a → node_at S end ≡ Some b → eqb a.node_id b.node_id ≡ false
+-- ---- where no rule refuses
+pub edge_comes_where : (S : Drawing) (start end : ℕ) (a b : NodeRow) (line : List Point) (f : ℕ) → node_at S start ≡ Some a → node_at S end ≡ Some b → eqb a.node_id b.node_id ≡ false
     → is_isolated S a.node_id ≡ true → is_isolated S b.node_id ≡ true → option_eq eqb a.containing_face b.containing_face ≡ true → goes_between a b line ≡ true → is_simple line ≡ true → is_line_blocked S line ≡ false
-    → unwrap_or a.containing_face 0 ≡ 0
-    → step S (AddIsoEdge start end line) ≡ Ok (record { drawing = with_edge S a b line 0; ids = the_edge S.next_ids.edge ∷ [] })
-edge_comes_where S start end a b line found_a found_b differ lone_a lone_b within ends simple free face =
-    rw (found_a, found_b, differ, lone_a, lone_b, within, ends, simple, free, face) refl
+    → f ≡ unwrap_or a.containing_face 0
+    → step S (AddIsoEdge start end line) ≡ Ok (record { drawing = with_edge S a b line f; ids = the_edge S.next_ids.edge ∷ [] })
+edge_comes_where S start end a b line f found_a found_b differ lone_a lone_b within ends simple free face =
+    subst (λ g. step S (AddIsoEdge start end line) ≡ Ok (record { drawing = with_edge S a b line g; ids = the_edge S.next_ids.edge ∷ [] })) (sym face)
+    (rw (found_a, found_b, differ, lone_a, lone_b, within, ends, simple, free) refl)
 
-pub edge_goes_where : (S : Drawing) (n : ℕ) (e : Edge) → edge_at S n ≡ Some e → is_isolated_edge S e ≡ true → is_in_feature S edge_type e.edge_id ≡ false → e.left_face ≡ 0
-    → step S (RemoveIsoEdge n) ≡ Ok (record { drawing = without_edge S e 0; ids = the_edge e.edge_id ∷ [] })
-edge_goes_where S n e found isolated free face = rw (found, isolated, free, face) refl
+pub edge_goes_where : (S : Drawing) (n : ℕ) (e : Edge) → edge_at S n ≡ Some e → is_isolated_edge S e ≡ true → is_in_feature S edge_type e.edge_id ≡ false
+    → step S (RemoveIsoEdge n) ≡ Ok (record { drawing = without_edge S e e.left_face; ids = the_edge e.edge_id ∷ [] })
+edge_goes_where S n e found isolated free = rw (found, isolated, free) refl

@@ -1,6 +1,7 @@
 -- The row writes of the edits of isolated nodes.
-use Rattle.std.proofs.Common.{◌≡◌, ℕ, ◌+◌, ◌<◌, ◌^◌, ◌==◌, ◌&&◌, ◌||◌, List, [], ◌∷◌, refl, sym, ap, subst, Option, Some, None, Ok, IsTrue, Bool, true, false, not, eqb, eqb-true, eq-eqb, unwrap_or}
-use Rattle.std.specs.List.{find}
+use Rattle.std.proofs.Common.{◌≡◌, ◌∙◌, ℕ, map, cond, ◌+◌, ◌<◌, ◌^◌, ◌==◌, ◌&&◌, ◌||◌, List, [], ◌∷◌, refl, sym, ap, subst, Option, Some, None, Ok, IsTrue, Bool, true, false, not, eqb, eq-eqb, unwrap_or}
+use Rattle.std.specs.List.{find, list_any}
+use Rattle.std.proofs.lemmas.Bool.{or_left, or_right}
 use Rattle.std.specs.Option.{option_eq}
 use Rattle.topo_base.specs.Point.{Point}
 use Rattle.topo_base.specs.declared.rows.NodeRow.{NodeRow}
@@ -15,18 +16,45 @@ use Rattle.topo_model.specs.IsoEdits.{accepts_face, is_given_face, is_in_feature
 use Rattle.topo_model.specs.Relations.{node_type}
 use Rattle.topo_model.specs.Rows.{has_row, without_row}
 use Rattle.topo_model.specs.Step.{step}
+use Rattle.topo_model.specs.Tables.{tables_of, face_row}
+use Rattle.topo_model.specs.Writable.{has_face_row}
+use Rattle.topo_model.specs.Writes.{face_row_id}
 use Rattle.read_set.specs.Plans.{IsPlanFor}
-use Rattle.iso_edits.proofs.IsolatedTests.{found_id, found_there}
+use Rattle.edit_conditions.proofs.IsolatedTests.{found_id, found_there}
+
+-- a face that is listed has its row
+pub has_face_row_is : (S : Drawing) (fs : List ℕ) (f : ℕ) → has_row face_row_id (map (face_row S) fs) f ≡ list_any (λ g. g == f) fs
+has_face_row_is S [] f = refl
+has_face_row_is S (g ∷ fs) f = ap (λ b. eqb g f || b) (has_face_row_is S fs f)
+
+pub face_there : (S : Drawing) (f : ℕ) → has_face S f ≡ true → IsTrue (has_face_row (tables_of S) f)
+face_there S f there = has_face_row_is S S.faces f ∙ there
+
+-- the face of a point is listed
+find_there : (test : ℕ → Bool) (fs : List ℕ) (f : ℕ) → find test fs ≡ Some f → list_any (λ g. g == f) fs ≡ true
+find_there test [] f found = absurd cc
+find_there test (x ∷ fs) f found = by (test x) found (find_there test fs f)
+  where
+    by : (b : Bool) → cond b (Some x) (find test fs) ≡ Some f → (find test fs ≡ Some f → list_any (λ g. g == f) fs ≡ true) → (eqb x f || list_any (λ g. g == f) fs) ≡ true
+    by true e rest = let same : x ≡ f = cc in or_left (eqb x f) (list_any (λ g. g == f) fs) (eq-eqb x f same)
+    by false e rest = or_right (eqb x f) (list_any (λ g. g == f) fs) (rest e)
+
+pub face_listed : (S : Drawing) (p : Point) → has_face S 0 ≡ true → has_face S (face_at S p) ≡ true
+face_listed S p universe = by (find (λ f. not (f == 0) && is_in_face S f p) S.faces) refl
+  where
+    by : (o : Option ℕ) → find (λ f. not (f == 0) && is_in_face S f p) S.faces ≡ o → has_face S (unwrap_or o 0) ≡ true
+    by None e = universe
+    by (Some f) e = find_there (λ f. not (f == 0) && is_in_face S f p) S.faces f e
 
 -- a node comes
-pub node_comes : (S : Drawing) (face : Option ℕ) (p : Point) → S.faces ≡ 0 ∷ [] → S.next_ids.node + 1 < 2 ^ 32
-    → step S (AddIsoNode face p) ≡ Ok (record { drawing = with_node S (Some 0) p; ids = the_node S.next_ids.node ∷ [] })
-    → IsPlanFor S (AddIsoNode face p) (AddNode (Old S.next_ids.node) (Some (Old 0)) p ∷ []) (the_node S.next_ids.node ∷ [])
-node_comes S face p one fits done = record {
-  done = record { drawing = with_node S (Some 0) p; ids = the_node S.next_ids.node ∷ [] };
+pub node_comes : (S : Drawing) (face : Option ℕ) (p : Point) (f : ℕ) → has_face S f ≡ true → S.next_ids.node + 1 < 2 ^ 32
+    → step S (AddIsoNode face p) ≡ Ok (record { drawing = with_node S (Some f) p; ids = the_node S.next_ids.node ∷ [] })
+    → IsPlanFor S (AddIsoNode face p) (AddNode (Old S.next_ids.node) (Some (Old f)) p ∷ []) (the_node S.next_ids.node ∷ [])
+node_comes S face p f there fits done = record {
+  done = record { drawing = with_node S (Some f) p; ids = the_node S.next_ids.node ∷ [] };
   accepted = done;
   named = refl;
-  writable = (((refl, fits), rw one refl), tt);
+  writable = (((refl, fits), face_there S f there), tt);
   tables = refl;
 }
 
@@ -60,28 +88,17 @@ node_goes S n node found done =
       tables = refl;
     }
 
--- ---- where no rule refuses, with face 0 alone
-pub only_face : (S : Drawing) (p : Point) → S.faces ≡ 0 ∷ [] → face_at S p ≡ 0
-only_face S p one = ap (λ (fs : List ℕ). unwrap_or (find (λ f. not (f == 0) && is_in_face S f p) fs) 0) one
+-- ---- where no rule refuses
+pub node_comes_where : (S : Drawing) (face : Option ℕ) (p : Point) (f : ℕ) → f ≡ face_at S p → accepts_face S face ≡ true → is_blocked S p ≡ false → is_given_face face f ≡ true
+    → step S (AddIsoNode face p) ≡ Ok (record { drawing = with_node S (Some f) p; ids = the_node S.next_ids.node ∷ [] })
+node_comes_where S face p f within accepts free given =
+    subst (λ g. step S (AddIsoNode face p) ≡ Ok (record { drawing = with_node S (Some g) p; ids = the_node S.next_ids.node ∷ [] })) (sym within)
+    (rw (accepts, free, ap (is_given_face face) (sym within) ∙ given) refl)
 
-given_only : (S : Drawing) (face : Option ℕ) → S.faces ≡ 0 ∷ [] → accepts_face S face ≡ true → is_given_face face 0 ≡ true
-given_only S None one h = refl
-given_only S (Some f) one h =
-    let there : has_face (record S { faces = 0 ∷ [] }) f ≡ true = subst (λ (fs : List ℕ). has_face (record S { faces = fs }) f ≡ true) one h in
-    eq-eqb f 0 (sym (eqb-true 0 f (no_other (eqb 0 f) there)))
-  where
-    no_other : (b : Bool) → (b || false) ≡ true → b ≡ true
-    no_other true e = refl
-    no_other false e = e
-
-pub node_comes_where : (S : Drawing) (face : Option ℕ) (p : Point) → S.faces ≡ 0 ∷ [] → accepts_face S face ≡ true → is_blocked S p ≡ false
-    → step S (AddIsoNode face p) ≡ Ok (record { drawing = with_node S (Some 0) p; ids = the_node S.next_ids.node ∷ [] })
-node_comes_where S face p one accepts free = rw (accepts, free, only_face S p one, given_only S face one accepts) refl
-
-pub node_moves_where : (S : Drawing) (n : ℕ) (node : NodeRow) (p : Point) → S.faces ≡ 0 ∷ [] → node_at S n ≡ Some node → is_isolated S node.node_id ≡ true → is_blocked_for S node.node_id p ≡ false
-    → option_eq eqb node.containing_face (Some 0) ≡ true
+pub node_moves_where : (S : Drawing) (n : ℕ) (node : NodeRow) (p : Point) → node_at S n ≡ Some node → is_isolated S node.node_id ≡ true → is_blocked_for S node.node_id p ≡ false
+    → option_eq eqb node.containing_face (Some (face_at S p)) ≡ true
     → step S (MoveIsoNode n p) ≡ Ok (record { drawing = record S { nodes = put_at p node.node_id S.nodes }; ids = the_node node.node_id ∷ [] })
-node_moves_where S n node p one found isolated free within = rw (found, isolated, free, only_face S p one, within) refl
+node_moves_where S n node p found isolated free within = rw (found, isolated, free, within) refl
 
 pub node_goes_where : (S : Drawing) (n : ℕ) (node : NodeRow) → node_at S n ≡ Some node → is_isolated S node.node_id ≡ true → is_in_feature S node_type node.node_id ≡ false
     → step S (RemoveIsoNode n) ≡ Ok (record { drawing = record S { nodes = without_row node_id_of S.nodes node.node_id }; ids = the_node node.node_id ∷ [] })

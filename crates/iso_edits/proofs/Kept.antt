@@ -11,8 +11,8 @@ use Rattle.topo_model.specs.Writable.{CanWriteAll}
 use Rattle.topo_model.specs.Writes.{all_written}
 use Rattle.topo_model.proofs.PlainHistories.{plain_stays}
 use Rattle.topo_model.proofs.TableLemmas.{drawn-tables_of}
-use Rattle.iso_edits.specs.Ready.{HasOneFace, HasPlainDrawing, is_planned}
-use Rattle.iso_edits.proofs.OneFaceStays.{one_face_stays}
+use Rattle.iso_edits.specs.Ready.{KnowsFaces, HasPlainDrawing, is_planned}
+use Rattle.iso_edits.proofs.KnownFacesStay.{faces_stay_known}
 use Rattle.read_set.specs.Answered.{IsAnswered}
 use Rattle.read_set.specs.Planned.{Planned}
 use Rattle.topo_tables.specs.Taken.{Taken}
@@ -33,7 +33,7 @@ plan_kept t u e ws ids planned h plan made =
     record {
       stands = is ∙ ap tables_of (sym drawing);
       plain = subst IsPlainInOrder (sym drawing) (plain_stays.each_edit (drawn t) e h.plain);
-      one_face = subst HasOneFace (sym drawing) (one_face_stays (drawn t) e planned h.one_face);
+      faces = subst KnowsFaces (sym drawing) (faces_stay_known (drawn t) e planned h.faces);
     }
 
 -- the same of a plan as a planner answers it, whose writes were made on tables with the rows of its excerpt

@@ -1,9 +1,10 @@
-pub mod RowTests
 pub mod Answering
-pub mod OneFace
-pub mod OneFaceStays
+pub mod KnownFaces
+pub mod KnownFacesStay
 pub mod Kept
-pub mod IsolatedTests
 pub mod IsolatedNodes
 pub mod IsolatedLinks
 pub mod IsolatedEdges
+pub mod Locating
+pub mod Boxes
+pub mod FacesWritten

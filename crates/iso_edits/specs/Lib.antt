@@ -1,3 +1,5 @@
 pub mod Ready
 pub mod Drafts
 pub mod Work
+pub mod Location
+pub mod Bounds

@@ -1,30 +1,39 @@
--- The drawings on which the isolated edits are planned so far: those with face 0 alone.
-use Rattle.std.specs.Prelude.{◌≡◌, ◌+◌, ◌<◌, ◌^◌, Bool, true, false, ◌&&◌, ◌==◌, IsTrue, [], ◌∷◌}
+-- The drawings on which the isolated edits are planned.
+use Rattle.std.specs.Prelude.{◌≡◌, ◌+◌, ◌<◌, ◌^◌, Bool, true, false, ◌&&◌, IsTrue}
 use Rattle.std.specs.List.{list_all}
 use Rattle.topo_base.specs.declared.rows.NodeRow.{NodeRow}
 use Rattle.topo_base.specs.declared.edit.Edit.{Edit}
 use Rattle.topo_base.specs.declared.edit.Edit.TheVariants.{AddIsoNode, MoveIsoNode, RemoveIsoNode, AddIsoEdge, RemoveIsoEdge}
-use Rattle.topo_model.specs.Drawing.{Drawing, Edge}
-use Rattle.topo_model.specs.IsoEdits.{is_given_face}
+use Rattle.topo_model.specs.Drawing.{Drawing, Edge, has_face}
+use Rattle.topo_model.specs.IsoEdits.{accepts_face}
 use Rattle.topo_model.specs.PlainLaw.{IsPlainInOrder}
+use Rattle.topo_model.specs.Subdivision.{rows_in_order, face_id_of}
 use Rattle.topo_model.specs.Tables.{Tables, tables_of, drawn}
 
--- face 0 is the only face, also of nodes and on the sides of edges
-pub record HasOneFace (S : Drawing) : Type 0 where
-  pub faces : S.faces ≡ 0 ∷ []
-  pub nodes : IsTrue (list_all (λ (n : NodeRow). is_given_face n.containing_face 0) S.nodes)
-  pub edges : IsTrue (list_all (λ (e : Edge). e.left_face == 0 && e.right_face == 0) S.edges)
+-- the containing face of a node, if any, is listed; both faces beside an edge are
+abbrev pub knows_containing : Drawing → NodeRow → Bool
+knows_containing S n = accepts_face S n.containing_face
 
--- tables that stand for a plain drawing in order, with face 0 alone
+abbrev pub knows_sides : Drawing → Edge → Bool
+knows_sides S e = has_face S e.left_face && has_face S e.right_face
+
+-- face 0 is listed, and so are containing faces and sides; the ids of faces ascend, below the next one
+pub record KnowsFaces (S : Drawing) : Type 0 where
+  pub universe : IsTrue (has_face S 0)
+  pub containing : IsTrue (list_all (knows_containing S) S.nodes)
+  pub sides : IsTrue (list_all (knows_sides S) S.edges)
+  pub ids : IsTrue (rows_in_order face_id_of 0 S.next_ids.face S.faces)
+
+-- tables that stand for a plain drawing in order, which knows its faces
 pub record HasPlainDrawing (t : Tables) : Type 0 where
   pub stands : t ≡ tables_of (drawn t)
   pub plain : IsPlainInOrder (drawn t)
-  pub one_face : HasOneFace (drawn t)
+  pub faces : KnowsFaces (drawn t)
 
--- plain and in order, with face 0 alone, and with an id more for a node and for an edge
+-- plain and in order, with faces that are known, and with an id more for a node and for an edge
 pub record IsReady (S : Drawing) : Type 0 where
   pub plain : IsPlainInOrder S
-  pub one_face : HasOneFace S
+  pub faces : KnowsFaces S
   pub node_more : S.next_ids.node + 1 < 2 ^ 32
   pub edge_more : S.next_ids.edge + 1 < 2 ^ 32
 

@@ -1,7 +1,10 @@
-ghost use Rattle.std.specs.Prelude.{◌≡◌, ◌∷◌, [], true, false, IfOk, IfErr};
+ghost use Rattle.std.specs.Prelude.{◌≡◌, ◌∷◌, ◌++◌, [], true, false, Some, None, IfOk, IfErr, OnOk};
+ghost use Rattle.iso_edits.specs.Bounds.{box_write, other_write};
 
 use std::alloc::Global;
-use topo_base::{EdgeId, Element, Ids, Line, Memory, NodeId, RowDart, RowId, RowWrite, Rule};
+use topo_base::{
+    Box4, EdgeId, Element, FaceId, Ids, Line, Memory, NodeId, RowDart, RowId, RowWrite, Rule,
+};
 use topo_tables::Writes;
 
 /// The row writes of an edit, and what its reply names.
@@ -27,6 +30,13 @@ impl From<Memory> for DraftEnd {
     fn from(_: Memory) -> Self {
         DraftEnd::Memory
     }
+}
+
+/// A face, and the box that it has after an edit.
+#[derive(Clone, Copy, Debug, PartialEq, Eq)]
+pub struct Bounded {
+    pub face: FaceId,
+    pub bounds: Option<Box4>,
 }
 
 fn one_write(alloc: Global, one: RowWrite) -> Result<Writes, Memory>
@@ -55,17 +65,18 @@ fn set_containing(node: NodeId, face: Option<RowId>) -> RowWrite
     }
 }
 
-/// The write of an edge in face 0 whose links are its own two half-edges.
+/// The write of an edge in a face whose links are its own two half-edges.
 fn add_edge(
     alloc: Global,
     edge: u32,
     start: NodeId,
     end: NodeId,
+    face: FaceId,
     line: &Line,
 ) -> Result<RowWrite, Memory>
     ensures { IfOk result (λ w. w ≡ RowWrite.AddEdge (RowId.Old edge) (RowId.Old start) (RowId.Old end)
         (record { edge = RowId.Old edge; forward = false }) (record { edge = RowId.Old edge; forward = true })
-        (RowId.Old 0) (RowId.Old 0) line.now) }
+        (RowId.Old face) (RowId.Old face) line.now) }
 {
     Ok(RowWrite::AddEdge {
         edge: RowId::Old(edge),
@@ -79,8 +90,8 @@ fn add_edge(
             edge: RowId::Old(edge),
             forward: true,
         },
-        left: RowId::Old(0),
-        right: RowId::Old(0),
+        left: RowId::Old(face.0),
+        right: RowId::Old(face.0),
         geom: line.copy(alloc)?,
     })
 }
@@ -102,45 +113,78 @@ fn edge_writes(
     Ok(writes)
 }
 
-/// A draft of an edge that comes, in face 0, between two nodes that are isolated no more.
+/// One write more, of a face's box, unless the face is face 0, which has none.
+fn push_box(writes: &mut Writes, one: &Bounded) -> Result<(), Memory>
+    ensures { OnOk result (writes.new ≡ writes.old ++ box_write one.now.face one.now.bounds) }
+{
+    if one.face.0 != 0 {
+        writes.push(RowWrite::SetBox {
+            face: RowId::Old(one.face.0),
+            mbr: one.bounds,
+        })?;
+    }
+    Ok(())
+}
+
+/// The same of the right face, where it is another than the left one.
+fn push_other_box(writes: &mut Writes, left: &Bounded, right: &Bounded) -> Result<(), Memory>
+    ensures { OnOk result (writes.new ≡ writes.old ++ other_write left.now.face right.now.face right.now.bounds) }
+{
+    if left.face.0 != right.face.0 {
+        push_box(writes, right)?;
+    }
+    Ok(())
+}
+
+/// A draft of an edge that comes, in a face that then has this box, between two nodes that are
+/// isolated no more.
 pub fn coming_edge(
     alloc: Global,
     edge: u32,
     start: NodeId,
     end: NodeId,
     line: &Line,
+    beside: &Bounded,
 ) -> Result<Draft, DraftEnd>
-    ensures writes { IfOk result (λ d. d.writes ≡ RowWrite.AddEdge (RowId.Old edge) (RowId.Old start) (RowId.Old end)
+    ensures writes { IfOk result (λ d. d.writes ≡ (RowWrite.AddEdge (RowId.Old edge) (RowId.Old start) (RowId.Old end)
         (record { edge = RowId.Old edge; forward = false }) (record { edge = RowId.Old edge; forward = true })
-        (RowId.Old 0) (RowId.Old 0) line.now
-        ∷ RowWrite.SetContaining (RowId.Old end) None ∷ RowWrite.SetContaining (RowId.Old start) None ∷ []) }
+        (RowId.Old beside.now.face) (RowId.Old beside.now.face) line.now
+        ∷ RowWrite.SetContaining (RowId.Old end) None ∷ RowWrite.SetContaining (RowId.Old start) None ∷ []) ++ box_write beside.now.face beside.now.bounds) }
     ensures ids { IfOk result (λ d. d.ids ≡ Element.Edge edge ∷ []) }
     ensures err { IfErr result (λ end. end ≡ DraftEnd.Memory) }
 {
-    let one = add_edge(alloc, edge, start, end, line)?;
-    let writes = edge_writes(alloc, one, start, end, None)?;
+    let one = add_edge(alloc, edge, start, end, beside.face, line)?;
+    let mut writes = edge_writes(alloc, one, start, end, None)?;
+    push_box(&mut writes, beside)?;
     Ok(Draft {
         writes,
         ids: one_id(Element::Edge(EdgeId(edge))),
     })
 }
 
-/// A draft of an edge that goes, and leaves its two nodes isolated in face 0.
+/// A draft of an edge that goes, and leaves its two nodes isolated in its left face, and the faces
+/// beside it with these boxes.
 pub fn going_edge(
     alloc: Global,
     edge: EdgeId,
     start: NodeId,
     end: NodeId,
+    left: &Bounded,
+    right: &Bounded,
 ) -> Result<Draft, DraftEnd>
-    ensures writes { IfOk result (λ d. d.writes ≡ RowWrite.DropEdge (RowId.Old edge)
-        ∷ RowWrite.SetContaining (RowId.Old end) (Some (RowId.Old 0)) ∷ RowWrite.SetContaining (RowId.Old start) (Some (RowId.Old 0)) ∷ []) }
+    ensures writes { IfOk result (λ d. d.writes ≡ (RowWrite.DropEdge (RowId.Old edge)
+        ∷ RowWrite.SetContaining (RowId.Old end) (Some (RowId.Old left.now.face)) ∷ RowWrite.SetContaining (RowId.Old start) (Some (RowId.Old left.now.face)) ∷ [])
+        ++ (box_write left.now.face left.now.bounds ++ other_write left.now.face right.now.face right.now.bounds)) }
     ensures ids { IfOk result (λ d. d.ids ≡ Element.Edge edge ∷ []) }
     ensures err { IfErr result (λ end. end ≡ DraftEnd.Memory) }
 {
     let one = RowWrite::DropEdge {
         edge: RowId::Old(edge.0),
     };
-    let writes = edge_writes(alloc, one, start, end, Some(RowId::Old(0)))?;
+    let containing = Some(RowId::Old(left.face.0));
+    let mut writes = edge_writes(alloc, one, start, end, containing)?;
+    push_box(&mut writes, left)?;
+    push_other_box(&mut writes, left, right)?;
     Ok(Draft {
         writes,
         ids: one_id(Element::Edge(edge)),

@@ -1,26 +1,74 @@
 // The edits of isolated edges.
-ghost use Rattle.std.specs.Prelude.{◌≡◌, ◌+◌, ◌≤◌, IfOk, IsTrue};
-ghost use Rattle.std.specs.List.{list_all};
+ghost use Rattle.std.specs.Prelude.{◌≡◌, ◌+◌, ◌≤◌, length, unwrap_or, IfOk, IsTrue};
+ghost use Rattle.std.specs.List.{list_all, sum_by};
 ghost use Rattle.topo_base.specs.declared.edit.Edit.{Edit};
-ghost use Rattle.topo_model.specs.Tables.{drawn};
-ghost use Rattle.topo_tables.specs.Room.{is_served};
+ghost use Rattle.topo_model.specs.Tables.{drawn, face_box};
+ghost use Rattle.iso_edits.specs.Bounds.{box_with, without};
 ghost use Rattle.iso_edits.specs.Drafts.{AnswersEdit};
 ghost use Rattle.iso_edits.specs.Ready.{IsReady};
+ghost use Rattle.edit_conditions.specs.Counted.{point_steps};
 ghost use Rattle.iso_edits.specs.Work.{most_steps};
 
-use crate::conditions::{
+use crate::bounds::{box_with_new, box_without};
+use crate::draft::{Bounded, Draft, DraftEnd, coming_edge, going_edge};
+use edit_conditions::{
     goes_between, is_in_feature, is_isolated, is_isolated_edge, is_line_blocked, is_same_face,
     is_same_node,
 };
-use crate::draft::{Draft, DraftEnd, coming_edge, going_edge};
 use grid_lines::is_simple;
 use std::alloc::Global;
 use std::sync::ledger::Ledger;
-use topo_base::{EdgeId, Line, NodeId, Rule, Steps};
+use topo_base::{EdgeId, FaceId, Line, NodeId, NodeRow, Rule, Steps};
 use topo_tables::Tables;
 
 /// The type of edges among the elements of a primitive layer.
 const EDGE_TYPE: u32 = 2;
+
+/// The node's containing face, or face 0 where it has none.
+fn containing_face(node: &NodeRow) -> FaceId
+    ensures { result ≡ unwrap_or node.now.containing_face 0 }
+{
+    match node.containing_face {
+        None => FaceId(0),
+        Some(face) => face,
+    }
+}
+
+/// The face in which an edge of this line and this id is to come from the node, with its box then.
+fn beside_new<L: Ledger>(
+    tables: &Tables,
+    node: &NodeRow,
+    edge: EdgeId,
+    line: &Line,
+    steps: &mut Steps<L>,
+) -> Bounded
+    ensures face { result.face ≡ unwrap_or node.now.containing_face 0 }
+    ensures bounds { result.bounds ≡ box_with line.now (without edge (drawn tables.now.rows)) (unwrap_or node.now.containing_face 0) }
+    ensures counted { steps.new ≤ steps.old + sum_by point_steps tables.now.rows.edges + length line.now }
+{
+    let face = containing_face(node);
+    Bounded {
+        bounds: box_with_new(tables, face, edge, line, steps),
+        face,
+    }
+}
+
+/// The face with its box where the edge is gone.
+fn beside_gone<L: Ledger>(
+    tables: &Tables,
+    face: FaceId,
+    edge: EdgeId,
+    steps: &mut Steps<L>,
+) -> Bounded
+    ensures face { result.face ≡ face }
+    ensures bounds { result.bounds ≡ face_box (without edge (drawn tables.now.rows)) face }
+    ensures counted { steps.new ≤ steps.old + sum_by point_steps tables.now.rows.edges }
+{
+    Bounded {
+        bounds: box_without(tables, face, edge, steps),
+        face,
+    }
+}
 
 /// An edge comes between two isolated nodes of one face, which are isolated no more, by the rules of
 /// ST_AddIsoEdge: NoNode, SameNode, NotIsolated, NotInFace, LineEnds, LineNotSimple, LineBlocked.
@@ -34,7 +82,6 @@ pub fn add_iso_edge<L: Ledger>(
 ) -> Result<Draft, DraftEnd>
     requires { IsReady (drawn tables.now.rows) }
     ensures answer { AnswersEdit (drawn tables.now.rows) (Edit.AddIsoEdge start end line.now) result }
-    ensures served { IfOk result (λ d. IsTrue (list_all is_served d.writes)) }
     ensures counted { steps.new ≤ steps.old + most_steps tables.now.rows (Edit.AddIsoEdge start end line.now) }
 {
     let Some(first) = tables.node(start, steps) else {
@@ -65,7 +112,8 @@ pub fn add_iso_edge<L: Ledger>(
         return Err(DraftEnd::Refused(Rule::LineBlocked));
     }
     let edge = tables.counters().edge;
-    coming_edge(alloc, edge, first.node_id, last.node_id, line)
+    let beside = beside_new(tables, first, EdgeId(edge), line, steps);
+    coming_edge(alloc, edge, first.node_id, last.node_id, line, &beside)
 }
 
 /// An isolated edge goes, and leaves its nodes isolated in its face, by the rules of
@@ -78,7 +126,6 @@ pub fn remove_iso_edge<L: Ledger>(
 ) -> Result<Draft, DraftEnd>
     requires { IsReady (drawn tables.now.rows) }
     ensures answer { AnswersEdit (drawn tables.now.rows) (Edit.RemoveIsoEdge edge) result }
-    ensures served { IfOk result (λ d. IsTrue (list_all is_served d.writes)) }
     ensures counted { steps.new ≤ steps.old + most_steps tables.now.rows (Edit.RemoveIsoEdge edge) }
 {
     let Some(row) = tables.edge(edge, steps) else {
@@ -91,5 +138,7 @@ pub fn remove_iso_edge<L: Ledger>(
     if is_in_feature(tables, EDGE_TYPE, edge.0, steps) {
         return Err(DraftEnd::Refused(Rule::EdgeInFeature));
     }
-    going_edge(alloc, edge, row.start_node, row.end_node)
+    let left = beside_gone(tables, row.left_face, edge, steps);
+    let right = beside_gone(tables, row.right_face, edge, steps);
+    going_edge(alloc, edge, row.start_node, row.end_node, &left, &right)
 }

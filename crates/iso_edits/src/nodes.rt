@@ -1,16 +1,18 @@
 // The edits of isolated nodes.
-ghost use Rattle.std.specs.Prelude.{◌≡◌, ◌+◌, ◌≤◌, nat_eq, IfOk, IsTrue};
+ghost use Rattle.std.specs.Prelude.{◌≡◌, ◌+◌, ◌≤◌, Some, IfOk, IsTrue};
 ghost use Rattle.std.specs.List.{list_all};
-ghost use Rattle.std.specs.Option.{option_eq};
 ghost use Rattle.topo_base.specs.declared.edit.Edit.{Edit};
 ghost use Rattle.topo_model.specs.Tables.{drawn};
-ghost use Rattle.topo_tables.specs.Room.{is_served};
 ghost use Rattle.iso_edits.specs.Drafts.{AnswersEdit};
 ghost use Rattle.iso_edits.specs.Ready.{IsReady};
 ghost use Rattle.iso_edits.specs.Work.{most_steps};
 
-use crate::conditions::{accepts_face, is_blocked, is_blocked_for, is_in_feature, is_isolated};
 use crate::draft::{Draft, DraftEnd, draft_of};
+use crate::location::face_at;
+use edit_conditions::{
+    accepts_face, is_blocked, is_blocked_for, is_given_face, is_in_feature, is_isolated,
+    is_same_face,
+};
 use std::alloc::Global;
 use std::sync::ledger::Ledger;
 use topo_base::{Element, FaceId, Grid, NodeId, RowId, RowWrite, Rule, Steps};
@@ -19,8 +21,19 @@ use topo_tables::Tables;
 /// The type of nodes among the elements of a primitive layer.
 const NODE_TYPE: u32 = 1;
 
+/// The write of an isolated node in this face.
+fn add_node(node: u32, face: FaceId, geom: Grid) -> RowWrite
+    ensures { result ≡ RowWrite.AddNode (RowId.Old node) (Some (RowId.Old face)) geom }
+{
+    RowWrite::AddNode {
+        node: RowId::Old(node),
+        face: Some(RowId::Old(face.0)),
+        geom,
+    }
+}
+
 /// An isolated node comes in the face that its point is in, by the rules of ST_AddIsoNode: NoFace,
-/// PointBlocked.
+/// PointBlocked, NotInFace.
 pub fn add_iso_node<L: Ledger>(
     alloc: Global,
     tables: &Tables,
@@ -30,7 +43,6 @@ pub fn add_iso_node<L: Ledger>(
 ) -> Result<Draft, DraftEnd>
     requires { IsReady (drawn tables.now.rows) }
     ensures answer { AnswersEdit (drawn tables.now.rows) (Edit.AddIsoNode face geom) result }
-    ensures served { IfOk result (λ d. IsTrue (list_all is_served d.writes)) }
     ensures counted { steps.new ≤ steps.old + most_steps tables.now.rows (Edit.AddIsoNode face geom) }
 {
     if !accepts_face(tables, face) {
@@ -39,12 +51,12 @@ pub fn add_iso_node<L: Ledger>(
     if is_blocked(tables, geom, steps) {
         return Err(DraftEnd::Refused(Rule::PointBlocked));
     }
+    let within = face_at(tables, geom, steps);
+    if !is_given_face(within, &face) {
+        return Err(DraftEnd::Refused(Rule::NotInFace));
+    }
     let node = tables.counters().node;
-    let one = RowWrite::AddNode {
-        node: RowId::Old(node),
-        face: Some(RowId::Old(0)),
-        geom,
-    };
+    let one = add_node(node, within, geom);
     draft_of(alloc, one, Element::Node(NodeId(node)))
 }
 
@@ -59,7 +71,6 @@ pub fn move_iso_node<L: Ledger>(
 ) -> Result<Draft, DraftEnd>
     requires { IsReady (drawn tables.now.rows) }
     ensures answer { AnswersEdit (drawn tables.now.rows) (Edit.MoveIsoNode node geom) result }
-    ensures served { IfOk result (λ d. IsTrue (list_all is_served d.writes)) }
     ensures counted { steps.new ≤ steps.old + most_steps tables.now.rows (Edit.MoveIsoNode node geom) }
 {
     let Some(row) = tables.node(node, steps) else {
@@ -72,7 +83,8 @@ pub fn move_iso_node<L: Ledger>(
     if is_blocked_for(tables, node, geom, steps) {
         return Err(DraftEnd::Refused(Rule::PointBlocked));
     }
-    if !is_universe(face) {
+    let within = face_at(tables, geom, steps);
+    if !is_same_face(face, Some(within)) {
         return Err(DraftEnd::Refused(Rule::NotInFace));
     }
     let one = RowWrite::SetPoint {
@@ -91,7 +103,6 @@ pub fn remove_iso_node<L: Ledger>(
     steps: &mut Steps<L>,
 ) -> Result<Draft, DraftEnd>
     ensures answer { AnswersEdit (drawn tables.now.rows) (Edit.RemoveIsoNode node) result }
-    ensures served { IfOk result (λ d. IsTrue (list_all is_served d.writes)) }
     ensures counted { steps.new ≤ steps.old + most_steps tables.now.rows (Edit.RemoveIsoNode node) }
 {
     let Some(row) = tables.node(node, steps) else {
@@ -108,14 +119,4 @@ pub fn remove_iso_node<L: Ledger>(
         node: RowId::Old(node.0),
     };
     draft_of(alloc, one, Element::Node(node))
-}
-
-/// Whether this is face 0.
-fn is_universe(face: Option<FaceId>) -> bool
-    ensures { result ≡ option_eq nat_eq face (Some 0) }
-{
-    match face {
-        None => false,
-        Some(face) => face.0 == 0,
-    }
 }

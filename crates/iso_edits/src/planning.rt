@@ -3,7 +3,6 @@ ghost use Rattle.std.specs.List.{list_all};
 ghost use Rattle.read_set.specs.Answered.{IsAnswered};
 ghost use Rattle.read_set.specs.Planned.{IsEditor};
 ghost use Rattle.topo_model.specs.Tables.{drawn};
-ghost use Rattle.topo_tables.specs.Room.{is_served};
 ghost use Rattle.iso_edits.specs.Drafts.{AnswersEdit};
 ghost use Rattle.iso_edits.specs.Ready.{IsReady, is_planned};
 ghost use Rattle.iso_edits.specs.Work.{most_steps};
@@ -27,7 +26,6 @@ fn drafted<L: Ledger>(
     requires ready { IsReady (drawn tables.now.rows) }
     requires planned { IsTrue (is_planned edit.now) }
     ensures answer { AnswersEdit (drawn tables.now.rows) edit.now result }
-    ensures served { IfOk result (λ d. IsTrue (list_all is_served d.writes)) }
     ensures counted { steps.new ≤ steps.old + most_steps tables.now.rows edit.now }
 {
     match edit {
@@ -56,7 +54,6 @@ pub fn plan<L: Ledger>(
     requires ready { IsReady (drawn excerpt.rows) }
     requires planned { IsTrue (is_planned edit) }
     ensures answer { IsAnswered editor edit excerpt result }
-    ensures served { IfOk result (λ p. IsTrue (list_all is_served p.writes)) }
     ensures counted { steps.new ≤ steps.old + most_steps excerpt.rows edit }
 {
     match drafted(alloc, excerpt.tables(), &edit, steps) {

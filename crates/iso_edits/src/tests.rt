@@ -13,7 +13,7 @@ use std::test::Fail;
 use topo_base::{EdgeId, Edit, Element, Grid, Line, NodeId, Rule, Steps};
 use topo_tables::{Excerpt, Tables};
 
-fn grid(rt: &impl Abort, x: i64, y: i64) -> Grid {
+pub fn grid(rt: &impl Abort, x: i64, y: i64) -> Grid {
     Grid::of(x, y).expect(rt, "off the grid")
 }
 
@@ -57,11 +57,11 @@ fn serve<L: Ledger>(
     }
 }
 
-fn done_node(id: u32) -> Result<Element, Rule> {
+pub fn done_node(id: u32) -> Result<Element, Rule> {
     Ok(Element::Node(NodeId(id)))
 }
 
-fn node_comes(rt: &impl Abort, x: i64, y: i64) -> Edit
+pub fn node_comes(rt: &impl Abort, x: i64, y: i64) -> Edit
     ensures { IsTrue (is_planned result) }
 {
     Edit::AddIsoNode {
@@ -70,7 +70,7 @@ fn node_comes(rt: &impl Abort, x: i64, y: i64) -> Edit
     }
 }
 
-fn node_moves(rt: &impl Abort, node: u32, x: i64, y: i64) -> Edit
+pub fn node_moves(rt: &impl Abort, node: u32, x: i64, y: i64) -> Edit
     ensures { IsTrue (is_planned result) }
 {
     Edit::MoveIsoNode {
@@ -79,7 +79,7 @@ fn node_moves(rt: &impl Abort, node: u32, x: i64, y: i64) -> Edit
     }
 }
 
-fn edge_comes(
+pub fn edge_comes(
     rt: &impl Abort,
     alloc: Global,
     start: u32,
@@ -96,7 +96,7 @@ fn edge_comes(
 }
 
 /// Serves the edit, whose reply is to be this.
-fn expect<L: Ledger>(
+pub fn expect<L: Ledger>(
     rt: &impl Abort,
     alloc: Global,
     tables: &mut Tables,

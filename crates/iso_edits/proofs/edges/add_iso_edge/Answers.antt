@@ -1,17 +1,18 @@
-use Rattle.std.proofs.Common.{refl, ◌≡◌, [], sym, ap, ◌∙◌, ◌∷◌, Some, true, false, eqb, unwrap_or}
+use Rattle.std.proofs.Common.{◌++◌, ◌≡◌, [], sym, ap, ◌∙◌, ◌∷◌, Some, true, false, eqb, unwrap_or}
 use Rattle.std.specs.Option.{option_eq}
 use Rattle.topo_base.specs.declared.edit.Edit.TheVariants.{AddIsoEdge}
 use Rattle.topo_base.specs.declared.rows.Counters.{Counters}
 use Rattle.topo_base.specs.declared.rows.NodeRow.{NodeRow}
 use Rattle.topo_model.specs.Blocked.{goes_between, is_line_blocked}
-use Rattle.topo_model.specs.Drawing.{node_at, is_isolated}
+use Rattle.topo_model.specs.Drawing.{node_at, is_isolated, has_face}
 use Rattle.topo_model.specs.Line.{is_simple}
 use Rattle.topo_model.specs.Outcome.{the_edge}
 use Rattle.read_set.specs.Plans.{IsPlanFor}
 use Rattle.topo_model.specs.Tables.{drawn}
 use Rattle.iso_edits.proofs.IsolatedEdges.{edge_comes, edge_comes_where, edge_writes}
-use Rattle.iso_edits.proofs.Answering.{served_by, answers_with, found_row}
-use Rattle.iso_edits.proofs.OneFace.{in_universe}
+use Rattle.iso_edits.proofs.Answering.{answers_with, found_row}
+use Rattle.iso_edits.specs.Bounds.{box_with, box_write, without}
+use Rattle.iso_edits.proofs.KnownFaces.{node_face}
 use Rattle.iso_edits.proofs.edges.add_iso_edge.Goals as goal
 
 pub returns-clause-answer : goal.returns-clause-answer
@@ -33,12 +34,17 @@ returns-clause-answer g c =
     let ends : goes_between a b line ≡ true = sym c.goes_between.ensures ∙ c.if-not-goes_between.false in
     let simple : is_simple line ≡ true = sym c.is_simple.ensures.test ∙ c.if-not-is_simple.false in
     let free : is_line_blocked S line ≡ false = sym c.is_line_blocked.ensures.test ∙ c.if-is_line_blocked.false in
-    let face : unwrap_or a.containing_face 0 ≡ 0 = in_universe S start a c.requires.one_face found_a in
-    let plan : IsPlanFor S (AddIsoEdge start end line) (edge_writes n a.node_id b.node_id line) (the_edge n ∷ []) =
-    rw next (edge_comes S start end a b line c.requires.one_face.faces c.requires.edge_more found_a found_b differ lone_a lone_b
-    (edge_comes_where S start end a b line found_a found_b differ lone_a lone_b within ends simple free face)) in
-    answers_with S (AddIsoEdge start end line) (edge_writes n a.node_id b.node_id line) (the_edge n ∷ []) c.coming_edge.result plan
+    let beside = c.beside_new-beside.result in
+    let f = beside.face in
+    let face : f ≡ unwrap_or a.containing_face 0 = c.beside_new-beside.ensures.face in
+    let bounds : beside.bounds ≡ box_with line (without S.next_ids.edge S) f =
+    c.beside_new-beside.ensures.bounds
+    ∙ ap (λ k. box_with line (without k S) (unwrap_or a.containing_face 0)) next
+    ∙ ap (box_with line (without S.next_ids.edge S)) (sym face) in
+    let listed : has_face S f ≡ true = ap (has_face S) face ∙ node_face S start a c.requires.faces found_a in
+    let ws = edge_writes n a.node_id b.node_id f line ++ box_write f beside.bounds in
+    let plan : IsPlanFor S (AddIsoEdge start end line) ws (the_edge n ∷ []) =
+    rw next (edge_comes S start end a b line f beside.bounds listed bounds (record { test = c.requires.plain.edge_ids }) c.requires.edge_more found_a found_b differ lone_a lone_b
+    (edge_comes_where S start end a b line f found_a found_b differ lone_a lone_b within ends simple free face)) in
+    answers_with S (AddIsoEdge start end line) ws (the_edge n ∷ []) c.coming_edge.result plan
     c.coming_edge.ensures.writes c.coming_edge.ensures.ids c.coming_edge.ensures.err
-
-pub returns-clause-served : goal.returns-clause-served
-returns-clause-served g c = served_by (edge_writes c.counters-edge.result.edge c.in-Some.first.now.node_id c.in-Some-node.last.now.node_id c.args.line.now) c.coming_edge.result refl c.coming_edge.ensures.writes

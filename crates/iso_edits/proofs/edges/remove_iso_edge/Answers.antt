@@ -1,4 +1,4 @@
-use Rattle.std.proofs.Common.{◌≡◌, [], ◌∷◌, sym, ap, ◌∙◌, Some, true, false, not, ◌&&◌, ◌==◌, refl}
+use Rattle.std.proofs.Common.{◌++◌, ◌≡◌, [], ◌∷◌, sym, ap, ◌∙◌, Some, true, false, not, ◌&&◌, ◌==◌, refl}
 use Rattle.std.proofs.lemmas.Bool.{and_parts}
 use Rattle.topo_base.specs.declared.edit.Edit.TheVariants.{RemoveIsoEdge}
 use Rattle.topo_model.specs.Drawing.{Edge, edge_at, has_only}
@@ -6,11 +6,12 @@ use Rattle.topo_model.specs.IsoEdits.{is_in_feature, is_isolated_edge}
 use Rattle.topo_model.specs.Outcome.{the_edge}
 use Rattle.read_set.specs.Plans.{IsPlanFor}
 use Rattle.topo_model.specs.Relations.{edge_type}
-use Rattle.topo_model.specs.Tables.{drawn, drawn_edge}
+use Rattle.topo_model.specs.Tables.{drawn, drawn_edge, face_box}
 use Rattle.iso_edits.proofs.IsolatedEdges.{edge_goes, edge_goes_where, gone_writes}
-use Rattle.iso_edits.proofs.Answering.{served_by, answers_with}
-use Rattle.iso_edits.proofs.OneFace.{beside_universe, ends_there}
-use Rattle.iso_edits.proofs.RowTests.{edge_found, edge_none}
+use Rattle.iso_edits.proofs.Answering.{answers_with}
+use Rattle.iso_edits.specs.Bounds.{box_write, other_write, without}
+use Rattle.iso_edits.proofs.KnownFaces.{edge_faces, ends_there}
+use Rattle.edit_conditions.proofs.RowTests.{edge_found, edge_none}
 use Rattle.iso_edits.proofs.edges.remove_iso_edge.Goals as goal
 
 pub returns-in_default-clause-answer : goal.returns-in_default-clause-answer
@@ -52,11 +53,16 @@ returns-clause-answer g c =
     let parts = and_parts (not (e.start_node == e.end_node) && only_a) only_b isolated in
     let front = and_parts (not (e.start_node == e.end_node)) only_a parts.0 in
     let there = ends_there S n e c.requires.plain.plain found in
-    let plan : IsPlanFor S (RemoveIsoEdge n) (gone_writes e.edge_id e.start_node e.end_node) (the_edge e.edge_id ∷ []) =
-    edge_goes S n e c.requires.one_face.faces (record { test = c.requires.plain.edge_ids }) found there.0 there.1 front.1 parts.1
-    (edge_goes_where S n e found isolated free (beside_universe S n e c.requires.one_face found)) in
-    answers_with S (RemoveIsoEdge n) (gone_writes e.edge_id e.start_node e.end_node) (the_edge e.edge_id ∷ []) c.going_edge.result plan
+    let listed = edge_faces S n e c.requires.faces found in
+    let left = c.beside_gone-left.result in
+    let right = c.beside_gone-right.result in
+    let on_left : left.face ≡ e.left_face = c.beside_gone-left.ensures.face in
+    let on_right : right.face ≡ e.right_face = c.beside_gone-right.ensures.face in
+    let box_left : left.bounds ≡ face_box (without e.edge_id S) e.left_face = c.beside_gone-left.ensures.bounds in
+    let box_right : right.bounds ≡ face_box (without e.edge_id S) e.right_face = c.beside_gone-right.ensures.bounds in
+    let ws = gone_writes e.edge_id e.start_node e.end_node left.face ++ (box_write left.face left.bounds ++ other_write left.face right.face right.bounds) in
+    let plan : IsPlanFor S (RemoveIsoEdge n) ws (the_edge e.edge_id ∷ []) =
+    rw (on_left, on_right) (edge_goes S n e left.bounds right.bounds listed.0 listed.1 box_left box_right (record { test = c.requires.plain.edge_ids }) found there.0 there.1 front.1 parts.1
+    (edge_goes_where S n e found isolated free)) in
+    answers_with S (RemoveIsoEdge n) ws (the_edge e.edge_id ∷ []) c.going_edge.result plan
     c.going_edge.ensures.writes c.going_edge.ensures.ids c.going_edge.ensures.err
-
-pub returns-clause-served : goal.returns-clause-served
-returns-clause-served g c = served_by (gone_writes c.in-Some.row.now.edge_id c.in-Some.row.now.start_node c.in-Some.row.now.end_node) c.going_edge.result refl c.going_edge.ensures.writes

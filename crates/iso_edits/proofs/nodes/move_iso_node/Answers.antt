@@ -1,4 +1,4 @@
-use Rattle.std.proofs.Common.{refl, ◌≡◌, [], ◌∷◌, sym, ◌∙◌, Some, false, true, eqb}
+use Rattle.std.proofs.Common.{ap, ◌≡◌, [], ◌∷◌, sym, ◌∙◌, Some, false, true, eqb}
 use Rattle.std.specs.Option.{option_eq}
 use Rattle.topo_base.specs.declared.edit.Edit.TheVariants.{MoveIsoNode}
 use Rattle.topo_base.specs.declared.rows.NodeRow.{NodeRow}
@@ -6,11 +6,12 @@ use Rattle.topo_base.specs.declared.write.RowId.TheVariants.{Old}
 use Rattle.topo_base.specs.declared.write.RowWrite.TheVariants.{SetPoint}
 use Rattle.topo_model.specs.Blocked.{is_blocked_for}
 use Rattle.topo_model.specs.Drawing.{node_at, is_isolated}
+use Rattle.topo_model.specs.Faces.{face_at}
 use Rattle.topo_model.specs.Outcome.{the_node}
 use Rattle.read_set.specs.Plans.{IsPlanFor}
 use Rattle.topo_model.specs.Tables.{drawn}
 use Rattle.iso_edits.proofs.IsolatedNodes.{node_moves, node_moves_where}
-use Rattle.iso_edits.proofs.Answering.{served_by, answers_with, found_row}
+use Rattle.iso_edits.proofs.Answering.{answers_with, found_row}
 use Rattle.iso_edits.proofs.nodes.move_iso_node.Goals as goal
 
 pub returns-clause-answer : goal.returns-clause-answer
@@ -23,11 +24,10 @@ returns-clause-answer g c =
     let found : node_at S c.args.node ≡ Some row = found_row c.node.result c.in-Some.row (node_at S c.args.node) c.in-Some.is c.node.ensures.row in
     let isolated : is_isolated S row.node_id ≡ true = sym c.is_isolated.ensures.test ∙ c.if-not-is_isolated.false in
     let free : is_blocked_for S row.node_id p ≡ false = sym c.is_blocked_for.ensures.test ∙ c.if-is_blocked_for.false in
-    let within : option_eq eqb row.containing_face (Some 0) ≡ true = sym c.is_universe.ensures ∙ c.if-not-is_universe.false in
+    let at : c.face_at-within.result ≡ face_at S p = c.face_at-within.ensures.face in
+    let within : option_eq eqb row.containing_face (Some (face_at S p)) ≡ true =
+    ap (λ f. option_eq eqb row.containing_face (Some f)) (sym at) ∙ sym c.is_same_face.ensures ∙ c.if-not-is_same_face.false in
     let plan : IsPlanFor S (MoveIsoNode c.args.node p) (SetPoint (Old k) p ∷ []) (the_node row.node_id ∷ []) =
-    rw id (node_moves S c.args.node row p found (node_moves_where S c.args.node row p c.requires.one_face.faces found isolated free within)) in
+    rw id (node_moves S c.args.node row p found (node_moves_where S c.args.node row p found isolated free within)) in
     answers_with S (MoveIsoNode c.args.node p) (SetPoint (Old k) p ∷ []) (the_node row.node_id ∷ []) c.draft_of.result plan
     c.draft_of.ensures.writes c.draft_of.ensures.ids c.draft_of.ensures.err
-
-pub returns-clause-served : goal.returns-clause-served
-returns-clause-served g c = served_by (SetPoint (Old c.node-2.inside.0) c.args.geom ∷ []) c.draft_of.result refl c.draft_of.ensures.writes

@@ -1,4 +1,4 @@
-use Rattle.std.proofs.Common.{refl, ◌≡◌, [], ◌∷◌, sym, ap, ◌∙◌, Some, false, true}
+use Rattle.std.proofs.Common.{◌≡◌, [], ◌∷◌, sym, ap, ◌∙◌, Some, false, true}
 use Rattle.topo_base.specs.declared.edit.Edit.TheVariants.{RemoveIsoNode}
 use Rattle.topo_base.specs.declared.rows.NodeRow.{NodeRow}
 use Rattle.topo_base.specs.declared.write.RowId.TheVariants.{Old}
@@ -10,7 +10,7 @@ use Rattle.read_set.specs.Plans.{IsPlanFor}
 use Rattle.topo_model.specs.Relations.{node_type}
 use Rattle.topo_model.specs.Tables.{drawn}
 use Rattle.iso_edits.proofs.IsolatedNodes.{node_goes, node_goes_where}
-use Rattle.iso_edits.proofs.Answering.{served_by, answers_with, found_row}
+use Rattle.iso_edits.proofs.Answering.{answers_with, found_row}
 use Rattle.iso_edits.proofs.nodes.remove_iso_node.Goals as goal
 
 pub returns-clause-answer : goal.returns-clause-answer
@@ -27,6 +27,3 @@ returns-clause-answer g c =
     rw id (node_goes S c.args.node row found (node_goes_where S c.args.node row found isolated free')) in
     answers_with S (RemoveIsoNode c.args.node) (DropNode (Old k) ∷ []) (the_node row.node_id ∷ []) c.draft_of.result plan
     c.draft_of.ensures.writes c.draft_of.ensures.ids c.draft_of.ensures.err
-
-pub returns-clause-served : goal.returns-clause-served
-returns-clause-served g c = served_by (DropNode (Old c.node-2.inside.0) ∷ []) c.draft_of.result refl c.draft_of.ensures.writes
