@@ -1,11 +1,9 @@
 // How one edit is made: an excerpt of the whole drawing, its plan, room, and the row writes.
 ghost use Rattle.std.specs.Prelude.{◌≡◌, ◌+◌, ◌<◌, ◌^◌, IsTrue, IfOk, OnOk, OnErr};
-ghost use Rattle.std.specs.List.{list_all};
 ghost use Rattle.iso_edits.specs.Ready.{HasPlainDrawing, is_planned};
 ghost use Rattle.topo_model.specs.Replay.{after, answer_of};
 ghost use Rattle.topo_model.specs.Step.{step};
 ghost use Rattle.topo_model.specs.Tables.{drawn};
-ghost use Rattle.topo_tables.specs.Room.{is_served};
 ghost use Rattle.topo.specs.Run.{HasIds};
 
 use iso_edits::plan;
@@ -29,7 +27,6 @@ fn commit<L: Ledger>(
     requires planned { IsTrue (is_planned plan.edit) }
     requires taken { plan.excerpt.rows ≡ tables.old.rows }
     requires front { plan.excerpt.front + 1 < 2 ^ 64 }
-    requires served { IsTrue (list_all is_served plan.writes) }
     ensures answer { IfOk result (λ a. a ≡ answer_of plan.excerpt.front (step (drawn tables.old.rows) plan.edit)) }
     ensures after { OnOk result (drawn tables.new.rows ≡ after (drawn tables.old.rows) plan.edit) }
     ensures plain { HasPlainDrawing tables.new.rows }
