@@ -1,5 +1,5 @@
 -- How a call of the program ends, by its cause.
-use Rattle.std.specs.Prelude.{◌≡◌, ◌⊎◌, ℕ, ◌^◌, ◌<◌, ◌≤◌, ◌++◌, ◌∷◌, List, [], length, Option, Some, IfSome, OnSome, codes}
+use Rattle.std.specs.Prelude.{◌≡◌, ◌⊎◌, ℕ, ◌^◌, ◌<◌, ◌≤◌, ◌++◌, ◌∷◌, List, [], length, take, Option, Some, IfSome, OnSome, codes}
 use Rattle.std.specs.Fmt.{decimal}
 use Rattle.std.specs.Io.KnownBytes.{Appends}
 use Rattle.topo_base.specs.ScriptLines.{ScriptLine}
@@ -9,7 +9,9 @@ use Rattle.topo_io.specs.Sinks.{IsFront, AppendsFront}
 use Rattle.topo_model.specs.Script.{IsScript, IsFirstBad}
 use Rattle.topo_model.specs.Texts.{replies_text}
 use Rattle.topo_model.specs.Run.{status_of}
-use Rattle.topo_model.specs.ScriptRun.{script_answers, AreScriptAnswers, due, IsRightScript}
+use Rattle.topo_model.specs.ScriptRun.{script_answers, script_history, AreScriptAnswers, due, IsRightScript}
+use Rattle.topo_model.specs.Replay.{replay}
+use Rattle.ring_laws.specs.Ringed.{IsRinged}
 
 -- what a source shows, what a sink shows, and both
 pub record SourceView : Type 0 where
@@ -69,11 +71,16 @@ all_but_last [] = []
 all_but_last (a ∷ []) = []
 all_but_last (a ∷ b ∷ given) = a ∷ all_but_last (b ∷ given)
 
+-- after each entry of the history each ring of the drawing has one face on its left, and the faces and nodes that rows name are listed
+abbrev pub IsRingedRun : List ScriptLine → List Answer → Type 0
+IsRingedRun lines given = (n : ℕ) → IsRinged (replay (take n (script_history lines given)))
+
 -- the script was run to its end, and all that is due is written
 pub record IsWholeRun (lines : List ScriptLine) (old new : SinkView) (result : ℕ) : Type 0 where
   pub status : result ≡ status_of (script_answers lines)
   pub text : Appends old.written new.written (due lines (script_answers lines))
   pub right : IsRightScript lines (script_answers lines)
+  pub ringed : IsRingedRun lines (script_answers lines)
   pub calm : new.faults ≡ old.faults
 
 -- the run stopped: what is written is a front of what is due for the answers given, with the lines of all of these but the last whole
@@ -81,6 +88,7 @@ pub record IsCutRun (lines : List ScriptLine) (old new : SinkView) : Type 0 wher
   pub given : List Answer
   pub answers : AreScriptAnswers lines given
   pub right : IsRightScript lines given
+  pub ringed : IsRingedRun lines given
   pub text : List ℕ
   pub due_front : IsFront text (due lines given)
   pub whole_lines : IsFront (replies_text (all_but_last given)) text
