@@ -14,3 +14,7 @@ pub mod Linked
 pub mod Setting
 pub mod Writing
 pub mod RightLinks
+pub mod Gone
+pub mod Fewer
+pub mod Unlinking
+pub mod RightUnlinks

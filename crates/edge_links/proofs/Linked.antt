@@ -75,7 +75,7 @@ abbrev pub half : Edge → Bool → HalfEdge
 half x true = forward_of x
 half x false = backward_of x
 
-half_is : (x : Edge) (way : Bool) → IsHalfOf x (half x way)
+pub half_is : (x : Edge) (way : Bool) → IsHalfOf x (half x way)
 half_is x true = inl refl
 half_is x false = inr refl
 
@@ -83,7 +83,7 @@ half_way : (x : Edge) (way : Bool) → (half x way).is_forward ≡ way
 half_way x true = refl
 half_way x false = refl
 
-half_name : (x : Edge) (way : Bool) → (half x way).edge_id ≡ x.edge_id
+pub half_name : (x : Edge) (way : Bool) → (half x way).edge_id ≡ x.edge_id
 half_name x true = refl
 half_name x false = refl
 

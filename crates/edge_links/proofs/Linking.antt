@@ -18,11 +18,11 @@ pub map_append : {X Y : Type 0} (f : X → Y) (xs ys : List X) → map f (xs ++ 
 map_append f [] ys = refl
 map_append f (x ∷ xs) ys = ap (λ zs. f x ∷ zs) (map_append f xs ys)
 
-map_map : {X Y Z : Type 0} (f : Y → Z) (g : X → Y) (xs : List X) → map f (map g xs) ≡ map (λ x. f (g x)) xs
+pub map_map : {X Y Z : Type 0} (f : Y → Z) (g : X → Y) (xs : List X) → map f (map g xs) ≡ map (λ x. f (g x)) xs
 map_map f g [] = refl
 map_map f g (x ∷ xs) = ap (λ zs. f (g x) ∷ zs) (map_map f g xs)
 
-map_self : {X : Type 0} (xs : List X) → xs ≡ map (λ x. x) xs
+pub map_self : {X : Type 0} (xs : List X) → xs ≡ map (λ x. x) xs
 map_self [] = refl
 map_self (x ∷ xs) = ap (λ zs. x ∷ zs) (map_self xs)
 
@@ -39,7 +39,7 @@ pub record Link : Type 0 where
 abbrev pub link_write : Link → RowWrite
 link_write k = link_back k.back k.next
 
-abbrev link_set : Link → EdgeRow → EdgeRow
+abbrev pub link_set : Link → EdgeRow → EdgeRow
 link_set k r = if edge_row_id r == k.back.edge then with_next (hand_back k.back.forward) k.next r else r
 
 abbrev pub all_set : List Link → EdgeRow → EdgeRow

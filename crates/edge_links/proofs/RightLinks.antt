@@ -45,7 +45,7 @@ plain_at T n nodes_end edges_end plain nodes edges some = record {
   some = λ h c l. All-contains IsNotZero (map leaving (star (half_edges T) n)) (leaving h) some (contains-map leaving h (star (half_edges T) n) (in_star T.edges n h c l));
 }
 
-plain_in_order : (T : Drawing) (n : ℕ) → IsPlainInOrder T → HasDirections T n → IsPlainAt T.nodes T.edges n
+pub plain_in_order : (T : Drawing) (n : ℕ) → IsPlainInOrder T → HasDirections T n → IsPlainAt T.nodes T.edges n
 plain_in_order T n h some = plain_at T n T.next_ids.node T.next_ids.edge h.plain (record { test = h.node_ids }) (record { test = h.edge_ids }) some
 
 -- the same where an edge has come

@@ -124,7 +124,7 @@ own_right old e ok d =
     (second_set first (is_of (link_from (forward_of e) stand) e false) third fourth
     (subst (λ (h : HalfEdge). is_of (link_from h stand) e false ≡ true) (twin_backward e) (from_set e false stand)))
 
-rows_of_links : (x : Edge) (left right left' right' : Dart) → left ≡ left' → right ≡ right' → row_with x left right ≡ row_with x left' right'
+pub rows_of_links : (x : Edge) (left right left' right' : Dart) → left ≡ left' → right ≡ right' → row_with x left right ≡ row_with x left' right'
 rows_of_links x left right left' right' e f = ap (λ d. row_with x d right) e ∙ ap (λ d. row_with x left' d) f
 
 -- all rows

@@ -61,7 +61,7 @@ rows_have hs (y ∷ old) e left right x c =
     (contains_cases x y (old ++ e ∷ []) c)
 
 -- what stands in a star is of an edge that is there
-stands_known : (edges : List Edge) (n : ℕ) (has : ℕ → Bool) → ((x : Edge) → Contains edges x → has x.edge_id ≡ true) → (m : HalfEdge) → Contains (star (flat_map both_ways edges) n) m → has (dart_of m).edge ≡ true
+pub stands_known : (edges : List Edge) (n : ℕ) (has : ℕ → Bool) → ((x : Edge) → Contains edges x → has x.edge_id ≡ true) → (m : HalfEdge) → Contains (star (flat_map both_ways edges) n) m → has (dart_of m).edge ≡ true
 stands_known edges n has each m c =
     let x = in_half_edges m edges (of_star edges n m c).0 in
     ap has (half_id x.0 m x.1.1) ∙ each x.0 x.1.0
@@ -75,7 +75,7 @@ before_known edges n ok has each s c =
     ap (λ (z : HalfEdge). has (dart_before (dart_of z) (map dart_of stand)).edge) (sym q.1.1) ∙ ap (λ (z : Dart). has z.edge) (before_is edges n ok s q.0 q.1.0)
     ∙ stands_known edges n has each (get_or stand before s) (at_has s stand before (before_within (length stand) q.0 q.1.0))
 
-after_known : (edges : List Edge) (n : ℕ) → IsStar edges n → (has : ℕ → Bool) → ((x : Edge) → Contains edges x → has x.edge_id ≡ true) → (s : HalfEdge) → Contains (star (flat_map both_ways edges) n) s
+pub after_known : (edges : List Edge) (n : ℕ) → IsStar edges n → (has : ℕ → Bool) → ((x : Edge) → Contains edges x → has x.edge_id ≡ true) → (s : HalfEdge) → Contains (star (flat_map both_ways edges) n) s
     → has (link_from s (star (flat_map both_ways edges) n)).next.edge ≡ true
 after_known edges n ok has each s c =
     let stand = star (flat_map both_ways edges) n in

@@ -1,3 +1,5 @@
 pub mod Rays
 pub mod Links
 pub mod LinksLaw
+pub mod Unlinks
+pub mod UnlinksLaw

@@ -14,7 +14,7 @@ fn is_same_dart(dart: &Dart, other: &Dart) -> bool
 }
 
 /// Where the dart stands among these, or their number.
-fn place_of(darts: &[Dart], dart: &Dart) -> usize
+pub(crate) fn place_of(darts: &[Dart], dart: &Dart) -> usize
     ensures { result ≡ place_of dart.now darts.now }
 {
     for (index, other) in darts.iter().enumerate() {
@@ -34,7 +34,7 @@ pub fn has_dart(star: &Star, dart: &Dart) -> bool
 }
 
 /// The index after another one, going round.
-fn index_after(count: usize, index: usize) -> usize
+pub(crate) fn index_after(count: usize, index: usize) -> usize
     requires { index < count }
     ensures value { result ≡ index_after count index }
     ensures within { result < count }
@@ -62,7 +62,7 @@ fn row_dart(dart: &Dart) -> RowDart
 }
 
 /// The write after which `next` follows the dart walked back.
-fn link_back(dart: &Dart, next: &Dart) -> RowWrite
+pub(crate) fn link_back(dart: &Dart, next: &Dart) -> RowWrite
     ensures { result ≡ link_back dart.now next.now }
 {
     RowWrite::SetNext {

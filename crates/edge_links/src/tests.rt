@@ -1,11 +1,11 @@
-//! Stars with near directions, closed edges, and the links round an edge that comes.
+//! Stars with near directions, closed edges, and the links round an edge that comes or goes.
 
 ghost use Rattle.std.specs.Prelude.{◌≡◌, ◌<◌, ◌^◌, ◌≤ℤ◌, pos, slice_index, IfOk, IsTrue};
 ghost use Rattle.topo_model.specs.LinePoints.{has_proper_segments};
 ghost use Rattle.edge_links.specs.Rays.{has_proper_line};
 
 use crate::about::star_among;
-use crate::{Star, has_dart, insert_edge, link_writes};
+use crate::{Star, has_dart, insert_edge, link_writes, unlink_writes};
 use grid_angle::Dir;
 use std::alloc::Global;
 use std::process::Abort;
@@ -235,4 +235,66 @@ fn finds_stars(rt: HostRuntime) -> Result<(), Fail> {
     expect_darts(&rt, &other, &[(3, true)]);
     expect_links(&rt, alloc, &star, (1, true), (1, false), (3, false))?;
     expect_links(&rt, alloc, &star, (1, false), (3, false), (1, true))
+}
+
+/// A star of up to four darts, in this order.
+fn star_in_order(rt: &impl Abort, alloc: Global, darts: &[(u32, bool)]) -> Result<Star, Fail> {
+    let mut star = Star::new(alloc);
+    let dirs = [(0, 1), (1, 0), (0, -1), (-1, 0)];
+    for ((edge, forward), (dx, dy)) in darts.iter().zip(dirs.iter()) {
+        let dir = Dir::of(*dx, *dy).expect(rt, "no direction");
+        star.insert(dart(*edge, *forward), dir)?;
+    }
+    Ok(star)
+}
+
+/// The links by which these darts follow where edge 2 goes.
+fn expect_unlinks(
+    rt: &impl Abort,
+    alloc: Global,
+    darts: &[(u32, bool)],
+    wanted: &[((u32, bool), (u32, bool))],
+) -> Result<(), Fail> {
+    let star = star_in_order(rt, alloc, darts)?;
+    expect_darts(rt, &star, darts);
+    let writes = unlink_writes(alloc, &star, EdgeId(2))?;
+    assert_eq!(rt; writes.as_slice().len(), wanted.len());
+    for (write, (back, next)) in writes.as_slice().iter().zip(wanted) {
+        assert!(rt; is_link(write, *back, *next));
+    }
+    Ok(())
+}
+
+const OUT: (u32, bool) = (2, true);
+
+const BACK: (u32, bool) = (2, false);
+
+const ONE: (u32, bool) = (1, true);
+
+const THREE: (u32, bool) = (3, false);
+
+#[test]
+fn unlinks_one_dart(rt: HostRuntime) -> Result<(), Fail> {
+    let alloc = rt.alloc();
+    expect_unlinks(&rt, alloc, &[ONE, OUT, THREE], &[(ONE, THREE)])?;
+    expect_unlinks(&rt, alloc, &[BACK, ONE, THREE], &[(THREE, ONE)])?;
+    expect_unlinks(&rt, alloc, &[ONE, OUT], &[(ONE, ONE)])?;
+    expect_unlinks(&rt, alloc, &[OUT], &[])?;
+    expect_unlinks(&rt, alloc, &[ONE, THREE], &[])
+}
+
+/// The darts of a closed edge are neighbours, stand apart, or are all there are.
+#[test]
+fn unlinks_closed_edges(rt: HostRuntime) -> Result<(), Fail> {
+    let alloc = rt.alloc();
+    expect_unlinks(&rt, alloc, &[ONE, OUT, BACK, THREE], &[(ONE, THREE)])?;
+    expect_unlinks(&rt, alloc, &[BACK, ONE, THREE, OUT], &[(THREE, ONE)])?;
+    expect_unlinks(
+        &rt,
+        alloc,
+        &[OUT, ONE, BACK, THREE],
+        &[(ONE, THREE), (THREE, ONE)],
+    )?;
+    expect_unlinks(&rt, alloc, &[OUT, ONE, BACK], &[(ONE, ONE)])?;
+    expect_unlinks(&rt, alloc, &[OUT, BACK], &[])
 }

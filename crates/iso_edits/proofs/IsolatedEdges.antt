@@ -24,8 +24,8 @@ use Rattle.topo_model.specs.Step.{step}
 use Rattle.topo_model.specs.Tables.{Tables, tables_of, edge_row, face_box}
 use Rattle.topo_model.specs.Writable.{has_face_row}
 use Rattle.topo_model.specs.Writes.{edge_row_id, all_written}
-use Rattle.iso_edits.specs.Bounds.{box_with, box_write, other_write, without}
-use Rattle.iso_edits.proofs.Boxes.{boxed, boxed_there, box_written, other_written, boxes_come, boxes_go, can_box, can_more, can_other, written_more}
+use Rattle.face_boxes.specs.Bounds.{box_with, box_write, other_write, without}
+use Rattle.face_boxes.proofs.Boxes.{boxed, boxed_there, box_written, other_written, boxes_come, boxes_go, can_box, can_more, can_other, written_more}
 use Rattle.iso_edits.proofs.IsolatedNodes.{face_there}
 use Rattle.iso_edits.proofs.IsolatedLinks.{rows_comes, rows_goes}
 use Rattle.edit_conditions.proofs.IsolatedTests.{found_id, found_there, has_row-change}

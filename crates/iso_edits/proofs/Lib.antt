@@ -6,5 +6,4 @@ pub mod IsolatedNodes
 pub mod IsolatedLinks
 pub mod IsolatedEdges
 pub mod Locating
-pub mod Boxes
 pub mod FacesWritten

@@ -2,4 +2,3 @@ pub mod Ready
 pub mod Drafts
 pub mod Work
 pub mod Location
-pub mod Bounds

@@ -1,5 +1,5 @@
 ghost use Rattle.std.specs.Prelude.{◌≡◌, ◌∷◌, ◌++◌, [], true, false, Some, None, IfOk, IfErr, OnOk};
-ghost use Rattle.iso_edits.specs.Bounds.{box_write, other_write};
+ghost use Rattle.face_boxes.specs.Bounds.{box_write, other_write};
 
 use std::alloc::Global;
 use topo_base::{

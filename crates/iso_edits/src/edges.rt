@@ -3,18 +3,18 @@ ghost use Rattle.std.specs.Prelude.{◌≡◌, ◌+◌, ◌≤◌, length, unwra
 ghost use Rattle.std.specs.List.{list_all, sum_by};
 ghost use Rattle.topo_base.specs.declared.edit.Edit.{Edit};
 ghost use Rattle.topo_model.specs.Tables.{drawn, face_box};
-ghost use Rattle.iso_edits.specs.Bounds.{box_with, without};
+ghost use Rattle.face_boxes.specs.Bounds.{box_with, without};
 ghost use Rattle.iso_edits.specs.Drafts.{AnswersEdit};
 ghost use Rattle.iso_edits.specs.Ready.{IsReady};
 ghost use Rattle.edit_conditions.specs.Counted.{point_steps};
 ghost use Rattle.iso_edits.specs.Work.{most_steps};
 
-use crate::bounds::{box_with_new, box_without};
 use crate::draft::{Bounded, Draft, DraftEnd, coming_edge, going_edge};
 use edit_conditions::{
     goes_between, is_in_feature, is_isolated, is_isolated_edge, is_line_blocked, is_same_face,
     is_same_node,
 };
+use face_boxes::{box_with_new, box_without};
 use grid_lines::is_simple;
 use std::alloc::Global;
 use std::sync::ledger::Ledger;

@@ -8,7 +8,6 @@
 //! above it. To make the writes is left to whoever keeps the tables.
 #![tactic(auto)]
 
-mod bounds;
 mod draft;
 mod edges;
 #[cfg(test)]

@@ -1,4 +1,5 @@
 pub mod Allowing
+pub mod KnownFeatures
 pub mod Merging
 pub mod Order
 pub mod Putting

@@ -8,3 +8,4 @@ pub mod ScriptSteps
 pub mod NamedEdits
 pub mod Naming
 pub mod Pairing
+pub mod Spelled

@@ -1,3 +1,4 @@
+pub mod Built
 pub mod Bindings
 pub mod Lines
 pub mod Parting

@@ -8,10 +8,11 @@ use Rattle.topo_base.specs.ScriptLines.{ScriptLine}
 use Rattle.topo_base.specs.declared.named.IdWord.{IdWord}
 use Rattle.topo_base.specs.declared.named.NamedEdit.{NamedEdit}
 use Rattle.topo_model.specs.InRange.{is_grid_point}
-use Rattle.topo_model.specs.NamedRange.{is_id_word, is_option_id_word, is_new_line, is_named_edit, is_built, can_spell}
+use Rattle.topo_model.specs.NamedRange.{is_id_word, is_option_id_word, is_new_line, is_named_edit}
 use Rattle.topo_model.specs.NamedWords.{id_word, option_id_word, named_words, names_words, script_words}
 use Rattle.topo_model.specs.Words.{line_words}
 use Rattle.topo_model.specs.Script.{IsLine, IsGood, is_skipped}
+use Rattle.script_reader.specs.Built.{is_built, can_spell}
 use Rattle.script_reader.specs.declared.read.Reading.{Reading}
 use Rattle.script_reader.specs.declared.read.Reading.TheVariants.{Skipped, Edit, Bad}
 
@@ -47,6 +48,11 @@ pub record IsNewLine (words : List (List ℕ)) (line : List Point) : Type 0 wher
   pub good : IsTrue (is_new_line line)
   pub spelled : words ≡ line_words line
 
+-- the words are two ids and the vertices of a line that an edit may have
+pub record AreEndsAndLine (words : List (List ℕ)) (a b : IdWord) (line : List Point) : Type 0 where
+  pub good : IsTrue (is_id_word a && is_id_word b && is_new_line line)
+  pub spelled : words ≡ id_word a ∷ id_word b ∷ line_words line
+
 -- the word and = are those of these names
 pub record AreNames (word : List ℕ) (names : List (List ℕ)) : Type 0 where
   pub good : IsTrue (list_all is_name names)
@@ -65,5 +71,5 @@ pub record AreWordsOf (words : List (List ℕ)) (l : ScriptLine) : Type 0 where
 -- what a line is read as
 abbrev pub IsReading : List ℕ → Reading → Type 0
 IsReading line Skipped = IsTrue (is_skipped line)
-IsReading line (Edit l) = (is_skipped line ≡ false) × IsLine line l
-IsReading line Bad = IsGood line → ⊥
+IsReading line (Edit l) = (is_skipped line ≡ false) × IsLine can_spell line l
+IsReading line Bad = IsGood can_spell line → ⊥

@@ -116,6 +116,20 @@ fn isolated_edits_are_read(rt: HostRuntime) -> Result<(), Fail> {
 }
 
 #[test]
+fn added_edges_are_read(rt: HostRuntime) -> Result<(), Fail> {
+    let rows = [
+        "addedgemodface $a 2 0 0 4 0",
+        "addedgenewfaces 1 $b\t0 0  4 0 4 4 ",
+    ];
+    for line in rows {
+        is_read(&rt, rt.alloc(), line.as_bytes(), 1, 0);
+    }
+    is_bad(&rt, rt.alloc(), b"addedgemodface 1 2 0 0".as_slice(), 1);
+    is_bad(&rt, rt.alloc(), b"addedgenewface 1 2 0 0 4 0".as_slice(), 1);
+    Ok(())
+}
+
+#[test]
 fn bad_isolated_edits_are_named(rt: HostRuntime) -> Result<(), Fail> {
     let rows = [
         "moveisonode",

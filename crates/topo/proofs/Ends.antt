@@ -11,11 +11,12 @@ use Rattle.topo_base.specs.declared.answer.Answer.TheVariants.{Memory}
 use Rattle.topo_io.specs.Causes.{Rose}
 use Rattle.topo_io.specs.Sinks.{IsFront, AppendsFront}
 use Rattle.topo_io.proofs.Written.{appended_more, front_more, front_whole}
-use Rattle.topo_model.specs.NamedRange.{can_spell}
+use Rattle.script_reader.specs.Built.{can_spell}
+use Rattle.script_reader.proofs.Spelled.{lines_spelled}
 use Rattle.topo_model.specs.Texts.{reply_text, replies_text, tables_text}
 use Rattle.topo_model.specs.ScriptRun.{Place, beginning, answer_at, script_answers, AreScriptAnswers, due}
 use Rattle.topo_model.proofs.ScriptRunning.{front_answers, short_answers, front_replayed, short_replayed, scripts_right}
-use Rattle.topo.proofs.Ringed.{ringed_run}
+use Rattle.topo.proofs.Referenced.{referenced_run}
 use Rattle.topo.specs.Run.{State, start, next_all, Shows, reply, replies, StopsShort, CutsShort}
 use Rattle.topo.specs.Endings.{SinkView, Prints, printed, print_cut, IsCutBy, all_but_last, RunsScript, ran_whole, ran_cut}
 use Rattle.topo.proofs.Runs.{next_all_place, next_all_done, answers-append, replies-append}
@@ -62,8 +63,8 @@ pub runs_whole : (ls : List ScriptLine) (old mid new : SinkView) (status result 
 runs_whole ls old mid new status result good text same stat (printed is rows calm) = ran_whole (record {
   status = is ∙ stat ∙ ap (λ b. cond b 0 1) (next_all_done start ls);
   text = subst (Appends old.written new.written) (sym (due_all ls)) (appended_more old.written mid.written new.written _ _ text rows);
-  right = scripts_right ls (script_answers ls) good (subst (λ ks. AreScriptAnswers ls (script_answers ks)) (take-length ls) (front_answers beginning ls (length ls)));
-  ringed = ringed_run ls (script_answers ls) (scripts_right ls (script_answers ls) good (subst (λ ks. AreScriptAnswers ls (script_answers ks)) (take-length ls) (front_answers beginning ls (length ls))));
+  right = scripts_right ls (script_answers ls) (lines_spelled ls good) (subst (λ ks. AreScriptAnswers ls (script_answers ks)) (take-length ls) (front_answers beginning ls (length ls)));
+  referenced = referenced_run ls (script_answers ls) (scripts_right ls (script_answers ls) (lines_spelled ls good) (subst (λ ks. AreScriptAnswers ls (script_answers ks)) (take-length ls) (front_answers beginning ls (length ls))));
   calm = calm ∙ same;
 })
 runs_whole ls old mid new status result good text same stat (print_cut by rows) =
@@ -71,8 +72,8 @@ runs_whole ls old mid new status result good text same stat (print_cut by rows) 
     ran_cut (cut_since old mid new result same by) (record {
       given = script_answers ls;
       answers = answered;
-      right = scripts_right ls (script_answers ls) good answered;
-      ringed = ringed_run ls (script_answers ls) (scripts_right ls (script_answers ls) good answered);
+      right = scripts_right ls (script_answers ls) (lines_spelled ls good) answered;
+      referenced = referenced_run ls (script_answers ls) (scripts_right ls (script_answers ls) (lines_spelled ls good) answered);
       text = replies start ls ++ rows.front;
       due_front = (rows.begins.0, append_assoc (replies start ls) rows.front rows.begins.0 ∙ ap (λ l. replies start ls ++ l) rows.begins.1 ∙ sym (due_all ls));
       whole_lines = longer_front _ _ rows.front (but_last_front (script_answers ls));
@@ -97,8 +98,8 @@ runs_short ls old mid new n result good inside text same ended =
     ran_cut (cut_since old mid new result same part.0) (record {
       given = given;
       answers = answered;
-      right = scripts_right ls given good answered;
-      ringed = ringed_run ls given (scripts_right ls given good answered);
+      right = scripts_right ls given (lines_spelled ls good) answered;
+      referenced = referenced_run ls given (scripts_right ls given (lines_spelled ls good) answered);
       text = before ++ front;
       due_front = (rest, append_assoc before front rest ∙ ap (λ l. before ++ l) part.1.begins.1 ∙ sym (append_assoc before (codes "memory\n") rows) ∙ sym (due_short ls n inside));
       whole_lines = (front, ap (λ (given : List Answer). replies_text given ++ front) (all_but_last-push (script_answers (take n ls)) Memory));
@@ -125,8 +126,8 @@ runs_cut ls old new result good cut by =
     ran_cut by (record {
       given = given;
       answers = answered;
-      right = scripts_right ls given good answered;
-      ringed = ringed_run ls given (scripts_right ls given good answered);
+      right = scripts_right ls given (lines_spelled ls good) answered;
+      referenced = referenced_run ls given (scripts_right ls given (lines_spelled ls good) answered);
       text = before ++ cut.front;
       due_front = (rest ++ rows, whole ∙ sym (due_front ls (n + 1)));
       whole_lines = (cut.front, ap (λ (given : List Answer). replies_text given ++ cut.front) (ap all_but_last last ∙ all_but_last-push (script_answers (take n ls)) _));

@@ -1,6 +1,6 @@
 pub mod Committed
 pub mod Growing
 pub mod Runs
-pub mod Ringed
+pub mod Referenced
 pub mod Ends
 pub mod Causes

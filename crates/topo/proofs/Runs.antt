@@ -1,5 +1,5 @@
 -- A run, one line after another.
-use Rattle.std.proofs.Common.{◌≡◌, ℕ, zero, suc, ◌+◌, ◌<◌, ◌≤◌, Bool, true, false, ◌&&◌, List, [], ◌∷◌, ◌++◌, length, get_or, take, Option, Some, None, Result, Ok, Err, is_ok, IsTrue, refl, sym, subst, ap, ◌∙◌, arith, append-nil}
+use Rattle.std.proofs.Common.{◌≡◌, ℕ, zero, suc, ◌+◌, ◌*◌, ◌<◌, ◌≤◌, Bool, true, false, ◌&&◌, List, [], ◌∷◌, ◌++◌, length, get_or, take, Option, Some, None, Result, Ok, Err, is_ok, IsTrue, refl, sym, subst, ap, ◌∙◌, arith, append-nil}
 use Rattle.std.specs.Prelude.{flat_map, OnOk}
 use Rattle.std.specs.Io.KnownBytes.{Appends}
 use Rattle.std.specs.List.{list_all}
@@ -12,18 +12,21 @@ use Rattle.topo_base.specs.declared.element.Element.{Element}
 use Rattle.topo_base.specs.declared.answer.Answer.{Answer}
 use Rattle.topo_base.specs.declared.answer.Answer.TheVariants.{Done, Refused, Unbound, Stale, DiskFault, Memory}
 use Rattle.topo_base.specs.declared.named.NamedEdit.{NamedEdit}
-use Rattle.topo_base.specs.declared.named.NamedEdit.TheVariants.{AddIsoNode, MoveIsoNode, RemoveIsoNode, AddIsoEdge, RemoveIsoEdge}
-use Rattle.iso_edits.specs.Ready.{is_planned}
+use Rattle.topo_base.specs.declared.named.NamedEdit.TheVariants.{AddIsoNode, MoveIsoNode, RemoveIsoNode, AddIsoEdge, RemoveIsoEdge, AddEdgeModFace, AddEdgeNewFaces}
+use Rattle.edit_plan.specs.Ready.{is_planned}
 use Rattle.script_reader.specs.Bindings.{names_of}
+use Rattle.script_reader.specs.Built.{is_built, can_spell}
+use Rattle.script_reader.proofs.Spelled.{line_spelled}
 use Rattle.topo_io.specs.Sinks.{AppendsFront}
 use Rattle.topo_io.proofs.Written.{appended_more, appended_none}
 use Rattle.topo_model.specs.Drawing.{Drawing}
+use Rattle.topo_model.specs.Legal.{keeps_limits}
 use Rattle.topo_model.specs.Outcome.{Outcome}
 use Rattle.topo_model.specs.Step.{step}
-use Rattle.topo_model.proofs.Resolving.{one_is, two_is, given_is}
+use Rattle.topo_model.proofs.Resolving.{one_is, two_is, given_is, edit_limits, good_edit}
 use Rattle.topo_model.specs.Replay.{answer_of, front_after}
 use Rattle.topo_model.specs.Bindings.{Names, id_of, resolve, bound, ids_of}
-use Rattle.topo_model.specs.NamedRange.{is_script_line, is_built, can_spell}
+use Rattle.topo_model.specs.NamedRange.{is_script_line}
 use Rattle.topo_model.specs.Texts.{reply_text}
 use Rattle.topo_model.specs.Run.{is_done}
 use Rattle.topo_model.specs.ScriptRun.{edit_at, answer_to, answer_at, drawing_with, front_with, place_after, place_after_all, answers_at}
@@ -88,39 +91,48 @@ built_planned b (MoveIsoNode n p) e good is = one_is is_planned (id_of b n) _ e 
 built_planned b (RemoveIsoNode n) e good is = one_is is_planned (id_of b n) _ e (λ n. refl) is
 built_planned b (AddIsoEdge s t line) e good is = two_is is_planned (id_of b s) (id_of b t) _ e (λ n m. refl) is
 built_planned b (RemoveIsoEdge n) e good is = one_is is_planned (id_of b n) _ e (λ n. refl) is
+built_planned b (AddEdgeModFace s t line) e good is = two_is is_planned (id_of b s) (id_of b t) _ e (λ n m. refl) is
+built_planned b (AddEdgeNewFaces s t line) e good is = two_is is_planned (id_of b s) (id_of b t) _ e (λ n m. refl) is
 built_planned b n e good is = absurd cc
 
 pub line_planned : (b : Names) (l : ScriptLine) (e : Edit) → IsTrue (can_spell l) → resolve b l.edit ≡ Some e → IsTrue (is_planned e)
 line_planned b l e good is = built_planned b l.edit e (and_parts (is_script_line l) (is_built l.edit) good).1 is
 
--- ---- at most one node, one edge and one place more for each line
+-- and it keeps the limits
+pub line_limits : (b : Names) (l : ScriptLine) (e : Edit) → IsTrue (can_spell l) → resolve b l.edit ≡ Some e → IsTrue (keeps_limits e)
+line_limits b l e good is = edit_limits b l.edit e (good_edit l (line_spelled l good)) is
+
+-- ---- at most one node, one edge, two faces and one place more for each line
 pub record IsFew (s t : State) (n : ℕ) : Type 0 where
   pub nodes : t.place.drawing.next_ids.node ≤ s.place.drawing.next_ids.node + n
   pub edges : t.place.drawing.next_ids.edge ≤ s.place.drawing.next_ids.edge + n
+  pub faces : t.place.drawing.next_ids.face ≤ s.place.drawing.next_ids.face + 2 * n
   pub places : t.place.front ≤ s.place.front + n
 
 with_little : (S : Drawing) (front : ℕ) (o : Option Edit) → ((e : Edit) → o ≡ Some e → IsTrue (is_planned e)) → IsLittle S (drawing_with S o) front (front_with S front o)
-with_little S front None good = record { nodes = omega arith; edges = omega arith; places = omega arith }
+with_little S front None good = record { nodes = omega arith; edges = omega arith; faces = omega arith; places = omega arith }
 with_little S front (Some e) good = edit_little S front e (good e refl)
 
 next_few : (s : State) (l : ScriptLine) → IsTrue (can_spell l) → IsFew s (next s l) 1
 next_few s l good =
     let few = with_little s.place.drawing s.place.front (edit_at s.place l) (λ e is. line_planned s.place.names l e good is) in
-    record { nodes = few.nodes; edges = few.edges; places = few.places }
+    record { nodes = few.nodes; edges = few.edges; faces = few.faces; places = few.places }
 
 pub next_all_few : (s : State) (ls : List ScriptLine) → IsTrue (list_all can_spell ls) → IsFew s (next_all s ls) (length ls)
-next_all_few s [] good = record { nodes = omega arith; edges = omega arith; places = omega arith }
+next_all_few s [] good = record { nodes = omega arith; edges = omega arith; faces = omega arith; places = omega arith }
 next_all_few s (l ∷ ls) good =
     let parts = and_parts (can_spell l) (list_all can_spell ls) good in
     let one = next_few s l parts.0 in
     let more = next_all_few (next s l) ls parts.1 in
     let nodes = one.nodes in
     let edges = one.edges in
+    let faces = one.faces in
     let places = one.places in
     let nodes' = more.nodes in
     let edges' = more.edges in
+    let faces' = more.faces in
     let places' = more.places in
-    record { nodes = omega arith; edges = omega arith; places = omega arith }
+    record { nodes = omega arith; edges = omega arith; faces = omega arith; places = omega arith }
 
 pub list_all-take : (p : ScriptLine → Bool) (ls : List ScriptLine) (n : ℕ) → IsTrue (list_all p ls) → IsTrue (list_all p (take n ls))
 list_all-take p [] zero h = refl

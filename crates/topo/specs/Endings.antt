@@ -4,6 +4,7 @@ use Rattle.std.specs.Fmt.{decimal}
 use Rattle.std.specs.Io.KnownBytes.{Appends}
 use Rattle.topo_base.specs.ScriptLines.{ScriptLine}
 use Rattle.topo_base.specs.declared.answer.Answer.{Answer}
+use Rattle.script_reader.specs.Built.{can_spell}
 use Rattle.topo_io.specs.Causes.{Rose}
 use Rattle.topo_io.specs.Sinks.{IsFront, AppendsFront}
 use Rattle.topo_model.specs.Script.{IsScript, IsFirstBad}
@@ -11,7 +12,7 @@ use Rattle.topo_model.specs.Texts.{replies_text}
 use Rattle.topo_model.specs.Run.{status_of}
 use Rattle.topo_model.specs.ScriptRun.{script_answers, script_history, AreScriptAnswers, due, IsRightScript}
 use Rattle.topo_model.specs.Replay.{replay}
-use Rattle.ring_laws.specs.Ringed.{IsRinged}
+use Rattle.reference_laws.specs.Referenced.{IsReferenced}
 
 -- what a source shows, what a sink shows, and both
 pub record SourceView : Type 0 where
@@ -71,16 +72,16 @@ all_but_last [] = []
 all_but_last (a ∷ []) = []
 all_but_last (a ∷ b ∷ given) = a ∷ all_but_last (b ∷ given)
 
--- after each entry of the history each ring of the drawing has one face on its left, and the faces and nodes that rows name are listed
-abbrev pub IsRingedRun : List ScriptLine → List Answer → Type 0
-IsRingedRun lines given = (n : ℕ) → IsRinged (replay (take n (script_history lines given)))
+-- after each entry of the history each ring of the drawing has one face on its left, ids ascend, and what rows name is listed
+abbrev pub IsReferencedRun : List ScriptLine → List Answer → Type 0
+IsReferencedRun lines given = (n : ℕ) → IsReferenced (replay (take n (script_history lines given)))
 
 -- the script was run to its end, and all that is due is written
 pub record IsWholeRun (lines : List ScriptLine) (old new : SinkView) (result : ℕ) : Type 0 where
   pub status : result ≡ status_of (script_answers lines)
   pub text : Appends old.written new.written (due lines (script_answers lines))
   pub right : IsRightScript lines (script_answers lines)
-  pub ringed : IsRingedRun lines (script_answers lines)
+  pub referenced : IsReferencedRun lines (script_answers lines)
   pub calm : new.faults ≡ old.faults
 
 -- the run stopped: what is written is a front of what is due for the answers given, with the lines of all of these but the last whole
@@ -88,7 +89,7 @@ pub record IsCutRun (lines : List ScriptLine) (old new : SinkView) : Type 0 wher
   pub given : List Answer
   pub answers : AreScriptAnswers lines given
   pub right : IsRightScript lines given
-  pub ringed : IsRingedRun lines given
+  pub referenced : IsReferencedRun lines given
   pub text : List ℕ
   pub due_front : IsFront text (due lines given)
   pub whole_lines : IsFront (replies_text (all_but_last given)) text
@@ -105,22 +106,22 @@ pub data Ending (words : List (List ℕ)) (old new : Outside) (result : ℕ) : T
   too_long : IsApply words → IfSome old.source.left (λ bytes. max_source < length bytes) → Says old.sink new.sink (codes "fault long\n") 9 result → Ending words old new result
   not_read : IsApply words → result ≡ 8 → Appends old.sink.written new.sink.written [] → Ending words old new result
   no_script : IsApply words → WasRead (λ bytes. Unit {0}) old.source new.source → result ≡ 8 → Appends old.sink.written new.sink.written [] → Ending words old new result
-  bad_line : IsApply words → (n : ℕ) → WasRead (λ bytes. IsFirstBad bytes n) old.source new.source → Tells old.sink new.sink (fault_line n) 3 result → Ending words old new result
-  ran : IsApply words → (lines : List ScriptLine) → WasRead (λ bytes. IsScript bytes lines) old.source new.source → RunsScript lines old.sink new.sink result → Ending words old new result
+  bad_line : IsApply words → (n : ℕ) → WasRead (λ bytes. IsFirstBad can_spell bytes n) old.source new.source → Tells old.sink new.sink (fault_line n) 3 result → Ending words old new result
+  ran : IsApply words → (lines : List ScriptLine) → WasRead (λ bytes. IsScript can_spell bytes lines) old.source new.source → RunsScript lines old.sink new.sink result → Ending words old new result
 
 -- ---- what the statuses say
 -- 0 and 1: a good script was run to its end, and no fault rose
 pub record HasRun (words : List (List ℕ)) (old new : Outside) (result : ℕ) : Type 0 where
   pub good : IsApply words
   pub script : List ScriptLine
-  pub read : WasRead (λ bytes. IsScript bytes script) old.source new.source
+  pub read : WasRead (λ bytes. IsScript can_spell bytes script) old.source new.source
   pub run : IsWholeRun script old.sink new.sink result
 
 -- 3: the line of this number is the first bad one, and nothing but its fault is written
 pub record HasBadLine (words : List (List ℕ)) (old new : Outside) : Type 0 where
   pub good : IsApply words
   pub number : ℕ
-  pub read : WasRead (λ bytes. IsFirstBad bytes number) old.source new.source
+  pub read : WasRead (λ bytes. IsFirstBad can_spell bytes number) old.source new.source
   pub text : Appends old.sink.written new.sink.written (fault_line number)
 
 -- 6 and 8: a front is written of the line of the fault that came, or of what was due for a script that was run so far
@@ -129,5 +130,5 @@ pub data HasFront (words : List (List ℕ)) (old new : Outside) : Type 0 where
   source_front : IsApply words → Rose old.source.faults new.source.faults → AppendsFront old.sink.written new.sink.written (codes "fault source\n") → HasFront words old new
   long_front : IsApply words → IfSome old.source.left (λ bytes. max_source < length bytes) → AppendsFront old.sink.written new.sink.written (codes "fault long\n") → HasFront words old new
   nothing_written : IsApply words → Appends old.sink.written new.sink.written [] → HasFront words old new
-  line_front : IsApply words → (n : ℕ) → WasRead (λ bytes. IsFirstBad bytes n) old.source new.source → AppendsFront old.sink.written new.sink.written (fault_line n) → HasFront words old new
-  script_front : IsApply words → (lines : List ScriptLine) → WasRead (λ bytes. IsScript bytes lines) old.source new.source → IsCutRun lines old.sink new.sink → HasFront words old new
+  line_front : IsApply words → (n : ℕ) → WasRead (λ bytes. IsFirstBad can_spell bytes n) old.source new.source → AppendsFront old.sink.written new.sink.written (fault_line n) → HasFront words old new
+  script_front : IsApply words → (lines : List ScriptLine) → WasRead (λ bytes. IsScript can_spell bytes lines) old.source new.source → IsCutRun lines old.sink new.sink → HasFront words old new

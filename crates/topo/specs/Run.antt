@@ -1,5 +1,5 @@
 -- How a run goes on, line after line.
-use Rattle.std.specs.Prelude.{◌≡◌, ℕ, ◌+◌, ◌^◌, ◌<◌, Bool, true, ◌&&◌, List, [], ◌∷◌, ◌++◌, take, length, Option}
+use Rattle.std.specs.Prelude.{◌≡◌, ℕ, ◌+◌, ◌*◌, ◌^◌, ◌<◌, Bool, true, ◌&&◌, List, [], ◌∷◌, ◌++◌, take, length, Option}
 use Rattle.std.specs.Io.KnownBytes.{Appends}
 use Rattle.topo_base.specs.ScriptLines.{ScriptLine}
 use Rattle.topo_io.specs.Sinks.{IsFront}
@@ -63,10 +63,11 @@ reply s l = reply_text (answer_at s.place l)
 abbrev pub replies : State → List ScriptLine → List ℕ
 replies s ls = replies_text (answers_at s.place ls)
 
--- there are ids for some edits more, each of which makes at most one node and one edge
+-- there are ids for some edits more, each of which makes at most one node, one edge and two faces
 pub record HasIds (S : Drawing) (more : ℕ) : Type 0 where
   pub nodes : S.next_ids.node + more < 2 ^ 32
   pub edges : S.next_ids.edge + more < 2 ^ 32
+  pub faces : S.next_ids.face + 2 * more < 2 ^ 32
 
 -- some lines more have ids and places
 pub record HasRoom (s : State) (more : ℕ) : Type 0 where

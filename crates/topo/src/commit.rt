@@ -1,12 +1,13 @@
 // How one edit is made: an excerpt of the whole drawing, its plan, room, and the row writes.
 ghost use Rattle.std.specs.Prelude.{◌≡◌, ◌+◌, ◌<◌, ◌^◌, IsTrue, IfOk, OnOk, OnErr};
-ghost use Rattle.iso_edits.specs.Ready.{HasPlainDrawing, is_planned};
+ghost use Rattle.edit_plan.specs.Ready.{HasDrawing, is_planned};
+ghost use Rattle.topo_model.specs.Legal.{keeps_limits};
 ghost use Rattle.topo_model.specs.Replay.{after, answer_of};
 ghost use Rattle.topo_model.specs.Step.{step};
 ghost use Rattle.topo_model.specs.Tables.{drawn};
 ghost use Rattle.topo.specs.Run.{HasIds};
 
-use iso_edits::plan;
+use edit_plan::plan;
 use read_set::{Plan, PlanEnd};
 use std::alloc::Global;
 use std::marker::Brand;
@@ -23,13 +24,13 @@ fn commit<L: Ledger>(
     plan: Plan,
     steps: &mut Steps<L>,
 ) -> Result<Answer, Memory>
-    requires plain { HasPlainDrawing tables.old.rows }
-    requires planned { IsTrue (is_planned plan.edit) }
+    requires drawing { HasDrawing tables.old.rows }
+    requires limits { IsTrue (keeps_limits plan.edit) }
     requires taken { plan.excerpt.rows ≡ tables.old.rows }
     requires front { plan.excerpt.front + 1 < 2 ^ 64 }
     ensures answer { IfOk result (λ a. a ≡ answer_of plan.excerpt.front (step (drawn tables.old.rows) plan.edit)) }
     ensures after { OnOk result (drawn tables.new.rows ≡ after (drawn tables.old.rows) plan.edit) }
-    ensures plain { HasPlainDrawing tables.new.rows }
+    ensures drawing { HasDrawing tables.new.rows }
     ensures err { OnErr result (tables.new.rows ≡ tables.old.rows) }
 {
     let front = plan.front() + 1;
@@ -50,13 +51,14 @@ fn try_counted<L: Ledger>(
     requires name { blank.name ≡ L.name }
     requires parts { blank.parts ≡ L.parts }
     requires some { 0 < blank.parts }
-    requires plain { HasPlainDrawing tables.old.rows }
+    requires drawing { HasDrawing tables.old.rows }
     requires ids { HasIds (drawn tables.old.rows) 1 }
     requires front { front + 1 < 2 ^ 64 }
     requires planned { IsTrue (is_planned edit) }
+    requires limits { IsTrue (keeps_limits edit) }
     ensures answer { IfOk result (λ a. a ≡ answer_of front (step (drawn tables.old.rows) edit)) }
     ensures after { OnOk result (drawn tables.new.rows ≡ after (drawn tables.old.rows) edit) }
-    ensures plain { HasPlainDrawing tables.new.rows }
+    ensures drawing { HasDrawing tables.new.rows }
     ensures err { OnErr result (tables.new.rows ≡ tables.old.rows) }
 {
     let mut steps = Steps::<L>::new(blank);
@@ -76,13 +78,14 @@ pub fn try_edit(
     front: u64,
     edit: Edit,
 ) -> Result<Answer, Memory>
-    requires plain { HasPlainDrawing tables.old.rows }
+    requires drawing { HasDrawing tables.old.rows }
     requires ids { HasIds (drawn tables.old.rows) 1 }
     requires front { front + 1 < 2 ^ 64 }
     requires planned { IsTrue (is_planned edit) }
+    requires limits { IsTrue (keeps_limits edit) }
     ensures answer { IfOk result (λ a. a ≡ answer_of front (step (drawn tables.old.rows) edit)) }
     ensures after { OnOk result (drawn tables.new.rows ≡ after (drawn tables.old.rows) edit) }
-    ensures plain { HasPlainDrawing tables.new.rows }
+    ensures drawing { HasDrawing tables.new.rows }
     ensures err { OnErr result (tables.new.rows ≡ tables.old.rows) }
 {
     try_counted::<Brand>(alloc, tables, front, edit, Blank::new(1))

@@ -1,6 +1,6 @@
 ghost use Rattle.std.specs.Prelude.{◌≡◌, ◌≤◌, ◌^◌, ◌++◌, OnOk, IsTrue, length, codes, if◌then◌else◌};
 ghost use Rattle.std.specs.List.{list_all};
-ghost use Rattle.topo_model.specs.NamedRange.{can_spell};
+ghost use Rattle.script_reader.specs.Built.{can_spell};
 ghost use Rattle.topo_model.specs.Texts.{tables_text};
 ghost use Rattle.topo.specs.Endings.{Says, Tells, Prints, RunsScript, fault_line};
 

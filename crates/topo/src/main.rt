@@ -6,6 +6,8 @@
 
 mod commit;
 mod end;
+#[cfg(test)]
+mod face_tests;
 mod outside;
 mod run;
 mod solo;

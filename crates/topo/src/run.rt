@@ -1,12 +1,12 @@
 ghost use Rattle.std.specs.Prelude.{◌≡◌, ◌≤◌, ◌<◌, ◌^◌, ◌+◌, ◌⊎◌, ℕ, [], ◌∷◌, take, length, true, IsTrue, IfOk, OnOk, OnErr, IsErrOf, Ok};
 ghost use Rattle.std.specs.Io.KnownBytes.{Appends};
 ghost use Rattle.std.specs.List.{list_all};
-ghost use Rattle.iso_edits.specs.Ready.{HasPlainDrawing, is_planned};
+ghost use Rattle.edit_plan.specs.Ready.{HasDrawing, is_planned};
 ghost use Rattle.script_reader.specs.Bindings.{names_of};
+ghost use Rattle.script_reader.specs.Built.{can_spell};
 ghost use Rattle.topo_io.specs.Causes.{Rose};
 ghost use Rattle.topo_io.specs.Sinks.{AppendsFront};
 ghost use Rattle.topo_model.specs.Bindings.{bound, ids_of, resolve};
-ghost use Rattle.topo_model.specs.NamedRange.{can_spell};
 ghost use Rattle.topo_model.specs.ScriptRun.{answer_at, answer_to, drawing_with};
 ghost use Rattle.topo_model.specs.Tables.{drawn, tables_of};
 ghost use Rattle.topo.specs.Run.{HasIds, HasRoom, Shows, StopsShort, CutsShort, answered, next, next_all, reply, replies, start, state_of, with_names};
@@ -32,14 +32,14 @@ pub struct Desk {
 
 impl Model for Desk {
     ghost use Rattle.topo_model.specs.Tables.{drawn};
-    ghost use Rattle.iso_edits.specs.Ready.{HasPlainDrawing};
+    ghost use Rattle.edit_plan.specs.Ready.{HasDrawing};
     ghost use Rattle.topo.specs.Run.{Kept};
 
     ghost Value = { Kept };
 
     ghost view = { λ d. record { drawing = drawn d.tables.rows; front = d.front; bindings = d.names; all_done = d.all_done } };
 
-    ghost invariant = { λ d. HasPlainDrawing d.tables.rows };
+    ghost invariant = { λ d. HasDrawing d.tables.rows };
 }
 
 /// Why a run stops before its end.
@@ -68,12 +68,19 @@ fn copy_of(alloc: Global, edit: &Edit) -> Result<Edit, Memory>
             geom: *geom,
         }),
         Edit::RemoveIsoNode { node } => Ok(Edit::RemoveIsoNode { node: *node }),
-        Edit::AddIsoEdge { start, end, line } => Ok(Edit::AddIsoEdge {
-            start: *start,
-            end: *end,
-            line: line.copy(alloc)?,
-        }),
+        Edit::AddIsoEdge { start, end, line } => {
+            let (start, end, line) = (*start, *end, line.copy(alloc)?);
+            Ok(Edit::AddIsoEdge { start, end, line })
+        }
         Edit::RemoveIsoEdge { edge } => Ok(Edit::RemoveIsoEdge { edge: *edge }),
+        Edit::AddEdgeModFace { start, end, line } => {
+            let (start, end, line) = (*start, *end, line.copy(alloc)?);
+            Ok(Edit::AddEdgeModFace { start, end, line })
+        }
+        Edit::AddEdgeNewFaces { start, end, line } => {
+            let (start, end, line) = (*start, *end, line.copy(alloc)?);
+            Ok(Edit::AddEdgeNewFaces { start, end, line })
+        }
         _ => unreachable!(),
     }
 }
@@ -86,14 +93,14 @@ fn try_line(
     names: &Bindings,
     line: &ScriptLine,
 ) -> Result<Answer, Memory>
-    requires plain { HasPlainDrawing tables.old.rows }
+    requires drawing { HasDrawing tables.old.rows }
     requires ids { HasIds (drawn tables.old.rows) 1 }
     requires front { front + 1 < 2 ^ 64 }
     requires good { IsTrue (can_spell line.now) }
     ensures answer { IfOk result (λ a. a ≡ answer_to (drawn tables.old.rows) front (resolve (names_of names.now) line.now.edit)) }
     ensures after { OnOk result (drawn tables.new.rows
         ≡ drawing_with (drawn tables.old.rows) (resolve (names_of names.now) line.now.edit)) }
-    ensures plain { HasPlainDrawing tables.new.rows }
+    ensures drawing { HasDrawing tables.new.rows }
     ensures err { OnErr result (tables.new.rows ≡ tables.old.rows) }
 {
     match line.edit() {

@@ -21,7 +21,13 @@ fn run<S: Source, K: Sink>(
 }
 
 /// Runs the script with ample memory: this is to be written, and this to be the status.
-fn answers(rt: &impl Abort, alloc: Global, script: &str, due: &str, want: u8) -> Result<(), Fail> {
+pub fn answers(
+    rt: &impl Abort,
+    alloc: Global,
+    script: &str,
+    due: &str,
+    want: u8,
+) -> Result<(), Fail> {
     let mut source = MemSource::plain(alloc, script.as_bytes().to_vec(alloc)?);
     let mut sink = MemSink::plain(alloc);
     let status = run(alloc, "apply", &mut source, &mut sink)?;
@@ -151,7 +157,8 @@ fn bad_lines_are_named(rt: HostRuntime) -> Result<(), Fail> {
         ("addisoedge 1 2 0 0\n", "fault line 1\n"),
         ("addisoedge 1 2 0 0 4\n", "fault line 1\n"),
         ("removeisoedge\n", "fault line 1\n"),
-        ("addedgemodface 1 2 0 0 4 0\n", "fault line 1\n"),
+        ("addedgemodface 1 2 0 0 4\n", "fault line 1\n"),
+        ("remedgemodface 1\n", "fault line 1\n"),
     ];
     for (script, due) in rows {
         let mut source = MemSource::plain(alloc, script.as_bytes().to_vec(alloc)?);

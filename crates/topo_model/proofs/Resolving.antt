@@ -14,7 +14,7 @@ use Rattle.topo_base.specs.declared.named.NamedEdit.{NamedEdit}
 use Rattle.topo_base.specs.declared.named.NamedEdit.TheVariants.{AddIsoNode, MoveIsoNode, RemoveIsoNode, AddIsoEdge, RemoveIsoEdge, AddEdgeModFace, AddEdgeNewFaces, RemEdgeModFace, RemEdgeNewFace, ModEdgeSplit, NewEdgesSplit, ModEdgeHeal, NewEdgeHeal, AddLayer, CreateTopoGeom, AddElement, RemElement, DropFeature}
 use Rattle.topo_model.specs.InRange.{is_grid_point}
 use Rattle.topo_model.specs.Legal.{keeps_limits, is_line_short}
-use Rattle.topo_model.specs.NamedRange.{is_id_word, is_named_pair, is_new_line, is_named_edit, is_script_line, is_built, can_spell}
+use Rattle.topo_model.specs.NamedRange.{is_id_word, is_named_pair, is_new_line, is_named_edit, is_script_line}
 use Rattle.topo_base.specs.Names.{is_name}
 use Rattle.topo_model.specs.Bindings.{Names, id_of, with_one, with_two, with_three, with_given, pair_of, onto_pairs, pairs_of, with_pairs, resolve, bound, ids_of}
 use Rattle.topo_model.specs.ScriptRun.{onto_edits, edits_given}
@@ -81,12 +81,12 @@ onto_keeps : (o : Option Edit) (es : List Edit) → ((d : Edit) → o ≡ Some d
 onto_keeps None es first rest = rest
 onto_keeps (Some d) es first rest = and_from (keeps_limits d) (list_all keeps_limits es) (first d refl) rest
 
-pub good_edit : (l : ScriptLine) → IsTrue (can_spell l) → IsTrue (is_named_edit l.edit)
-good_edit l good = (and_parts (list_all is_name l.names) (is_named_edit l.edit) (and_parts (is_script_line l) (is_built l.edit) good).0).1
+pub good_edit : (l : ScriptLine) → IsTrue (is_script_line l) → IsTrue (is_named_edit l.edit)
+good_edit l good = (and_parts (list_all is_name l.names) (is_named_edit l.edit) good).1
 
-pub edits_limits : (b : Names) (ls : List ScriptLine) (given : List Answer) → IsTrue (list_all can_spell ls) → IsTrue (list_all keeps_limits (edits_given b ls given))
+pub edits_limits : (b : Names) (ls : List ScriptLine) (given : List Answer) → IsTrue (list_all is_script_line ls) → IsTrue (list_all keeps_limits (edits_given b ls given))
 edits_limits b [] given good = refl
 edits_limits b (l ∷ ls) [] good = refl
 edits_limits b (l ∷ ls) (answer ∷ given) good =
-    let parts = and_parts (can_spell l) (list_all can_spell ls) good in
+    let parts = and_parts (is_script_line l) (list_all is_script_line ls) good in
     onto_keeps (resolve b l.edit) _ (λ d is. edit_limits b l.edit d (good_edit l parts.0) is) (edits_limits (bound b l.names (ids_of answer)) ls given parts.1)

@@ -1,5 +1,5 @@
 -- What a line of a script can spell: numbers, points, names and lists in range.
-use Rattle.std.specs.Prelude.{Bool, true, false, ◌&&◌, nat_le, List, length, Option, Some, None}
+use Rattle.std.specs.Prelude.{Bool, true, ◌&&◌, nat_le, List, length, Option, Some, None}
 use Rattle.std.specs.List.{list_all}
 use Rattle.topo_base.specs.Names.{is_name}
 use Rattle.topo_base.specs.Point.{Point}
@@ -48,15 +48,3 @@ is_named_edit (DropFeature t) = is_id_word t
 
 abbrev pub is_script_line : ScriptLine → Bool
 is_script_line l = list_all is_name l.names && is_named_edit l.edit
-
--- the edits that a script can spell by now
-abbrev pub is_built : NamedEdit → Bool
-is_built (AddIsoNode face p) = true
-is_built (MoveIsoNode n p) = true
-is_built (RemoveIsoNode n) = true
-is_built (AddIsoEdge a b line) = true
-is_built (RemoveIsoEdge e) = true
-is_built e = false
-
-abbrev pub can_spell : ScriptLine → Bool
-can_spell l = is_script_line l && is_built l.edit

@@ -2,7 +2,6 @@
 use Rattle.std.specs.Prelude.{◌≡◌, ◌⊎◌, ℕ, ◌+◌, Bool, true, false, not, ◌&&◌, ◌||◌, IsTrue, List, [], ◌∷◌, filter, if◌then◌else◌, ◌==◌}
 use Rattle.std.specs.List.{list_all}
 use Rattle.topo_base.specs.ScriptLines.{ScriptLine}
-use Rattle.topo_model.specs.NamedRange.{can_spell}
 use Rattle.topo_model.specs.NamedWords.{script_words}
 
 -- a byte at the front of the first piece
@@ -56,34 +55,34 @@ is_comment ((c ∷ cs) ∷ ws) = c == 35
 abbrev pub is_skipped : List ℕ → Bool
 is_skipped line = is_comment (words_of line)
 
--- the line spells this edit, with the names that it binds
-pub record IsLine (line : List ℕ) (l : ScriptLine) : Type 0 where
-  pub good : IsTrue (can_spell l)
+-- the line spells this edit, with the names that it binds, and it is one of those that are read
+pub record IsLine (is_read : ScriptLine → Bool) (line : List ℕ) (l : ScriptLine) : Type 0 where
+  pub good : IsTrue (is_read l)
   pub spelled : words_of line ≡ script_words l
 
 -- each line spells the edit at its place
-abbrev pub AreLines : List (List ℕ) → List ScriptLine → Type 0
-AreLines [] [] = Unit {0}
-AreLines (line ∷ lines) (l ∷ ls) = IsLine line l × AreLines lines ls
-AreLines [] (l ∷ ls) = ⊥
-AreLines (line ∷ lines) [] = ⊥
+abbrev pub AreLines : (ScriptLine → Bool) → List (List ℕ) → List ScriptLine → Type 0
+AreLines is_read [] [] = Unit {0}
+AreLines is_read (line ∷ lines) (l ∷ ls) = IsLine is_read line l × AreLines is_read lines ls
+AreLines is_read [] (l ∷ ls) = ⊥
+AreLines is_read (line ∷ lines) [] = ⊥
 
 -- the lines that aren't skipped
 abbrev pub edit_lines : List (List ℕ) → List (List ℕ)
 edit_lines lines = filter (λ line. not (is_skipped line)) lines
 
 -- the text is the script of these edits
-abbrev pub IsScript : List ℕ → List ScriptLine → Type 0
-IsScript text ls = AreLines (edit_lines (lines_of text)) ls
+abbrev pub IsScript : (ScriptLine → Bool) → List ℕ → List ScriptLine → Type 0
+IsScript is_read text ls = AreLines is_read (edit_lines (lines_of text)) ls
 
--- the line is skipped, or spells an edit
-abbrev pub IsGood : List ℕ → Type 0
-IsGood line = IsTrue (is_skipped line) ⊎ ((l : ScriptLine) × IsLine line l)
+-- the line is skipped, or spells an edit that is read
+abbrev pub IsGood : (ScriptLine → Bool) → List ℕ → Type 0
+IsGood is_read line = IsTrue (is_skipped line) ⊎ ((l : ScriptLine) × IsLine is_read line l)
 
 -- of these lines the one of this number, counted from 1, is the first that is neither
-abbrev pub IsFirstBadLine : List (List ℕ) → ℕ → Type 0
-IsFirstBadLine [] n = ⊥
-IsFirstBadLine (line ∷ lines) n = ((n ≡ 1) × (IsGood line → ⊥)) ⊎ (IsGood line × (m : ℕ) × (n ≡ m + 1) × IsFirstBadLine lines m)
+abbrev pub IsFirstBadLine : (ScriptLine → Bool) → List (List ℕ) → ℕ → Type 0
+IsFirstBadLine is_read [] n = ⊥
+IsFirstBadLine is_read (line ∷ lines) n = ((n ≡ 1) × (IsGood is_read line → ⊥)) ⊎ (IsGood is_read line × (m : ℕ) × (n ≡ m + 1) × IsFirstBadLine is_read lines m)
 
-abbrev pub IsFirstBad : List ℕ → ℕ → Type 0
-IsFirstBad text n = IsFirstBadLine (lines_of text) n
+abbrev pub IsFirstBad : (ScriptLine → Bool) → List ℕ → ℕ → Type 0
+IsFirstBad is_read text n = IsFirstBadLine is_read (lines_of text) n

@@ -10,7 +10,7 @@ use Rattle.topo_model.specs.Drawing.{Drawing, nothing_drawn}
 use Rattle.topo_model.specs.Step.{step}
 use Rattle.topo_model.specs.Replay.{after, replay, answer_of, front_after}
 use Rattle.topo_model.specs.Bindings.{Names, no_names, bound, ids_of, resolve}
-use Rattle.topo_model.specs.NamedRange.{can_spell}
+use Rattle.topo_model.specs.NamedRange.{is_script_line}
 use Rattle.topo_model.specs.Run.{history_of, IsRightRun}
 use Rattle.topo_model.specs.Texts.{replies_text, tables_text}
 
@@ -108,4 +108,4 @@ IsRightScript ls given = IsRightRun (script_edits ls given) (answers_given no_na
 
 -- so it is for every run of a script
 abbrev pub ScriptsAreRight : Type 0
-ScriptsAreRight = (ls : List ScriptLine) (given : List Answer) → IsTrue (list_all can_spell ls) → AreScriptAnswers ls given → IsRightScript ls given
+ScriptsAreRight = (ls : List ScriptLine) (given : List Answer) → IsTrue (list_all is_script_line ls) → AreScriptAnswers ls given → IsRightScript ls given

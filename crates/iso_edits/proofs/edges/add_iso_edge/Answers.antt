@@ -11,7 +11,7 @@ use Rattle.read_set.specs.Plans.{IsPlanFor}
 use Rattle.topo_model.specs.Tables.{drawn}
 use Rattle.iso_edits.proofs.IsolatedEdges.{edge_comes, edge_comes_where, edge_writes}
 use Rattle.iso_edits.proofs.Answering.{answers_with, found_row}
-use Rattle.iso_edits.specs.Bounds.{box_with, box_write, without}
+use Rattle.face_boxes.specs.Bounds.{box_with, box_write, without}
 use Rattle.iso_edits.proofs.KnownFaces.{node_face}
 use Rattle.iso_edits.proofs.edges.add_iso_edge.Goals as goal
 

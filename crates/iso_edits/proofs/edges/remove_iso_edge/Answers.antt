@@ -9,7 +9,7 @@ use Rattle.topo_model.specs.Relations.{edge_type}
 use Rattle.topo_model.specs.Tables.{drawn, drawn_edge, face_box}
 use Rattle.iso_edits.proofs.IsolatedEdges.{edge_goes, edge_goes_where, gone_writes}
 use Rattle.iso_edits.proofs.Answering.{answers_with}
-use Rattle.iso_edits.specs.Bounds.{box_write, other_write, without}
+use Rattle.face_boxes.specs.Bounds.{box_write, other_write, without}
 use Rattle.iso_edits.proofs.KnownFaces.{edge_faces, ends_there}
 use Rattle.edit_conditions.proofs.RowTests.{edge_found, edge_none}
 use Rattle.iso_edits.proofs.edges.remove_iso_edge.Goals as goal

@@ -4,7 +4,7 @@ use Rattle.std.specs.List.{list_all}
 use Rattle.std.proofs.lemmas.List.{length-take}
 use Rattle.topo_base.specs.ScriptLines.{ScriptLine}
 use Rattle.topo_io.specs.Sinks.{AppendsFront}
-use Rattle.topo_model.specs.NamedRange.{can_spell}
+use Rattle.script_reader.specs.Built.{can_spell}
 use Rattle.topo.specs.Run.{HasRoom, Shows, StopsShort, CutsShort, next_all, reply, replies, state_of}
 use Rattle.topo.proofs.Runs.{replies_next, next_all_more, next_all_few, list_all-at, list_all-take, cuts, nothing_of, same_error, shows_at, take_whole}
 use Rattle.topo.proofs.run.Desk.serve_all.Goals as goal
@@ -24,11 +24,13 @@ serve-requires-clause-room g c =
     let same = ap length c.deref-line-items.ensures.value in
     let room = c.requires.room.ids.nodes in
     let room' = c.requires.room.ids.edges in
-    let room'' = c.requires.room.places in
+    let room'' = c.requires.room.ids.faces in
+    let room''' = c.requires.room.places in
     let nodes = few.nodes in
     let edges = few.edges in
+    let faces = few.faces in
     let places = few.places in
-    subst (λ x. HasRoom x 1) (sym c.loop-at.invariant.state) (record { ids = record { nodes = omega arith; edges = omega arith }; places = omega arith })
+    subst (λ x. HasRoom x 1) (sym c.loop-at.invariant.state) (record { ids = record { nodes = omega arith; edges = omega arith; faces = omega arith }; places = omega arith })
 
 pub serve-requires-clause-good : goal.serve-requires-clause-good
 serve-requires-clause-good g c = list_all-at can_spell c.deref-line-items.result.now c.loop-at.at c.line-item.result (good_lines c.deref-line-items.result.now c.args.lines.items c.deref-line-items.ensures.value c.requires.good) c.loop-at-test.true c.line-item.is

@@ -1,0 +1,45 @@
+ghost use Rattle.std.specs.Prelude.{◌≡◌, IsTrue};
+ghost use Rattle.read_set.specs.Answered.{IsAnswered};
+ghost use Rattle.read_set.specs.Planned.{IsEditor};
+ghost use Rattle.topo_model.specs.Tables.{drawn, tables_of};
+ghost use Rattle.edit_plan.specs.Ready.{IsReady, adds_edge, is_planned};
+
+use read_set::{Plan, PlanEnd};
+use std::alloc::Global;
+use std::sync::ledger::Ledger;
+use topo_base::{Edit, Steps};
+use topo_tables::Excerpt;
+
+/// Whether the edit adds an edge that may have other edges at its ends.
+fn adds_edge(edit: &Edit) -> bool
+    ensures { result ≡ adds_edge edit.now }
+{
+    match edit {
+        Edit::AddEdgeModFace { .. } => true,
+        Edit::AddEdgeNewFaces { .. } => true,
+        _ => false,
+    }
+}
+
+/// Plans the edit on an excerpt of whole tables, by the rules of its function in the standard. Refused
+/// comes exactly where a rule refuses it on the excerpt's drawing: by that rule, with the excerpt's
+/// front. Nothing is changed.
+pub fn plan<L: Ledger>(
+    alloc: Global,
+    excerpt: Excerpt,
+    edit: Edit,
+    editor: u32,
+    steps: &mut Steps<L>,
+) -> Result<Plan, PlanEnd>
+    requires editor { IsEditor editor }
+    requires ready { IsReady (drawn excerpt.rows) }
+    requires stands { excerpt.rows ≡ tables_of (drawn excerpt.rows) }
+    requires planned { IsTrue (is_planned edit) }
+    ensures answer { IsAnswered editor edit excerpt result }
+{
+    if adds_edge(&edit) {
+        face_split::plan(alloc, excerpt, edit, editor, steps)
+    } else {
+        iso_edits::plan(alloc, excerpt, edit, editor, steps)
+    }
+}

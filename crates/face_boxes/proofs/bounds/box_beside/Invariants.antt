@@ -1,0 +1,15 @@
+use Rattle.std.proofs.Common.{◌≡◌, ◌+◌, ◌≤◌, drop, map}
+use Rattle.std.specs.List.{sum_by}
+use Rattle.topo_model.specs.Places.{rows_of}
+use Rattle.topo_model.specs.Tables.{least_box, drawn_edge}
+use Rattle.face_boxes.specs.Bounds.{grown, vertices_beside}
+use Rattle.edit_conditions.specs.Counted.{point_steps}
+use Rattle.face_boxes.proofs.bounds.box_beside.Given as goal
+
+-- the box so far, with the rest, is the whole
+abbrev pub invariant-loop-slot : goal.invariant-loop-slot
+invariant-loop-slot g l = record {
+  bounds : grown l.bounds (vertices_beside l.face l.left_out (map drawn_edge (rows_of (drop l.slot-index l.edges))))
+      ≡ least_box (vertices_beside l.face l.left_out (map drawn_edge (rows_of l.edges)));
+  counted : l.steps + sum_by point_steps (rows_of (drop l.slot-index l.edges)) ≤ l.fn.steps + sum_by point_steps (rows_of l.edges);
+}

@@ -1,0 +1,12 @@
+pub mod RowSides
+pub mod SideWrites
+pub mod Starts
+pub mod Lists
+pub mod RingWrites
+pub mod RingParts
+pub mod Dividing
+pub mod Allowing
+pub mod Raising
+pub mod Vertices
+pub mod RingPaths
+pub mod DartPaths

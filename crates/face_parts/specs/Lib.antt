@@ -1,0 +1,5 @@
+pub mod Sides
+pub mod SidesLaw
+pub mod Divided
+pub mod DividedFace
+pub mod Paths

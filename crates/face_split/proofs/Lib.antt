@@ -1,0 +1,11 @@
+pub mod Stars
+pub mod AddedRows
+pub mod RingOfEdge
+pub mod Featured
+pub mod OnePart
+pub mod TwoParts
+pub mod Finished
+pub mod LastWedges
+pub mod GrownBox
+pub mod RingTaken
+pub mod Placed

@@ -1,0 +1,103 @@
+-- A line that may come between two nodes: what follows for the drawing with it, and that the edit is accepted.
+use Rattle.std.proofs.Common.{◌≡◌, ℕ, ◌≤◌, Bool, true, false, not, ◌&&◌, ◌||◌, ◌==◌, List, [], ◌∷◌, ◌++◌, length, cond, Option, Some, Bor, Ok, Err, IsTrue, refl, sym, ap, ◌∙◌, subst, eqb-true}
+use Rattle.std.specs.List.{list_all}
+use Rattle.std.specs.Option.{option_copied}
+use Rattle.std.proofs.lemmas.Bool.{and_parts}
+use Rattle.topo_base.specs.Point.{Point}
+use Rattle.topo_base.specs.declared.rows.NodeRow.{NodeRow}
+use Rattle.topo_base.specs.declared.rule.Rule.TheVariants.{LineEnds, LineNotSimple, LineBlocked}
+use Rattle.topo_model.proofs.Members.{contains-found}
+use Rattle.topo_model.proofs.PlainParts.{parts_of, plain_of}
+use Rattle.topo_model.proofs.PlainStaying.{HasPlain, edge_more}
+use Rattle.topo_model.specs.AddEdge.{add_edge, coming, face_at_end, face_at_start, with_parts}
+use Rattle.topo_model.specs.Blocked.{goes_between, is_line_blocked}
+use Rattle.topo_model.specs.Drawing.{Drawing, Edge, has_face, node_at}
+use Rattle.topo_model.specs.HalfEdge.{backward_of}
+use Rattle.topo_model.specs.IsoEdits.{with_edge}
+use Rattle.topo_model.specs.Line.{is_proper, is_simple, segments_of}
+use Rattle.topo_model.specs.Outcome.{Accepted, Outcome}
+use Rattle.topo_model.specs.PlainLaw.{IsPlainInOrder}
+use Rattle.topo_model.specs.Ring.{contains_half_edge}
+use Rattle.topo_model.specs.Subdivision.{is_edge_known}
+use Rattle.topo_model.specs.Tables.{Tables}
+use Rattle.ring_laws.proofs.RingsStaying.{rings_stay}
+use Rattle.ring_laws.specs.Ringed.{IsRinged}
+use Rattle.face_split.specs.Added.{added_rows}
+use Rattle.face_split.specs.Answers.{IsPlaced}
+use Rattle.face_split.specs.Closing.{HasAdded, WasAdded, left_ring, with_edge_in}
+use Rattle.face_split.specs.Ready.{IsReady}
+
+-- ---- the drawing with the line
+ringed_with : (S : Drawing) (a b : NodeRow) (line : List Point) (f : ℕ) → IsReady S → IsPlaced S a b line f → 2 ≤ length line → IsRinged (with_edge S a b line f)
+ringed_with S a b line f ready placed long = rings_stay.added S a b line f ready.ringed placed.start placed.end placed.plain long placed.lies
+
+last_holds : (p : Edge → Bool) (xs : List Edge) (x : Edge) → list_all p (xs ++ x ∷ []) ≡ true → p x ≡ true
+last_holds p [] x h = (and_parts (p x) true h).0
+last_holds p (y ∷ xs) x h = last_holds p xs x (and_parts (p y) (list_all p (xs ++ x ∷ [])) h).1
+
+face_listed : (S : Drawing) (a b : NodeRow) (line : List Point) (f : ℕ) → IsRinged (with_edge S a b line f) → has_face S f ≡ true
+face_listed S a b line f h =
+    let T = with_edge S a b line f in
+    let known = last_holds (is_edge_known T) S.edges (coming S a b line f) h.edges in
+    (and_parts _ (has_face T f) known).1
+
+pub placed_face : (S : Drawing) (a b : NodeRow) (line : List Point) (f : ℕ) → IsReady S → IsPlaced S a b line f → 2 ≤ length line → IsTrue (has_face S f)
+placed_face S a b line f ready placed long = face_listed S a b line f (ringed_with S a b line f ready placed long)
+
+pub was_added : (S : Drawing) (a b : NodeRow) (line : List Point) (f : ℕ) (t : Tables) → IsReady S → IsPlaced S a b line f → 2 ≤ length line → t ≡ added_rows S a b line f → WasAdded S a b line f t
+was_added S a b line f t ready placed long rows =
+    let ringed = ringed_with S a b line f ready placed long in record { ready = ready; ringed = ringed; face = face_listed S a b line f ringed; rows = rows }
+
+pub has_added : (S : Drawing) (a b : NodeRow) (line : List Point) (f edge : ℕ) (t : Tables) → WasAdded S a b line f t → edge ≡ S.next_ids.edge → HasAdded t edge f
+has_added S a b line f edge t added edge_is = record { before = S; start = a; end = b; line = line; added = added; edge_is = edge_is }
+
+-- ---- a line that was tested may come
+pub found_row : {R : Type 0} (o : Option (Bor R)) (x : Bor R) (r : Option R) → o ≡ Some x → option_copied o ≡ r → r ≡ Some x.now
+found_row o x r is same = sym same ∙ ap option_copied is
+
+or_falses : (a b : Bool) → (a || b) ≡ false → (a ≡ false) × (b ≡ false)
+or_falses true b h = absurd cc
+or_falses false b h = (refl, h)
+
+passed : (b : Bool) → not b ≡ false → b ≡ true
+passed true h = refl
+passed false h = absurd cc
+
+pub placed_where : (S : Drawing) (start end : ℕ) (a b : NodeRow) (line : List Point) (f : ℕ) → IsPlainInOrder S → node_at S start ≡ Some a → node_at S end ≡ Some b → goes_between a b line ≡ true → is_simple line ≡ true
+    → f ≡ face_at_start S a line → (is_line_blocked S line || not (face_at_end S b line == f)) ≡ false → IsPlaced S a b line f
+placed_where S start end a b line f ordered found_a found_b ends simple face free =
+    let ca = (contains-found (λ (r : NodeRow). r.node_id == start) a S.nodes found_a).0 in
+    let cb = (contains-found (λ (r : NodeRow). r.node_id == end) b S.nodes found_b).0 in
+    let apart = or_falses (is_line_blocked S line) (not (face_at_end S b line == f)) free in
+    let plain : HasPlain S = record { parts = parts_of S ordered.plain; ids = record { test = ordered.node_ids }; edge_ids = record { test = ordered.edge_ids } } in
+    record {
+      start = ca;
+      end = cb;
+      plain = plain_of (with_edge S a b line f) (edge_more S a b line f plain ca cb ends simple apart.0).parts;
+      proper = (and_parts (list_all is_proper (segments_of line)) _ simple).0;
+      lies = (sym face, eqb-true (face_at_end S b line) f (passed (face_at_end S b line == f) apart.1));
+    }
+
+-- ---- and the edit is accepted
+push_ok : (c d : Bool) (x y z : Accepted) → ◌≡◌ {A = Outcome} (cond c (Ok x) (cond d (Ok y) (Ok z))) (Ok (cond c x (cond d y z)))
+push_ok true d x y z = refl
+push_ok false true x y z = refl
+push_ok false false x y z = refl
+
+parts_are : (S : Drawing) (a b : NodeRow) (line : List Point) (f : ℕ) (both : Bool) → with_parts (with_edge S a b line f) both (coming S a b line f) f ≡ Ok (with_edge_in both S a b line f)
+parts_are S a b line f both = push_ok (contains_half_edge (left_ring S a b line f) (backward_of (coming S a b line f))) (both && not (f == 0)) _ _ _
+
+outcome_where : (S : Drawing) (a b : NodeRow) (line : List Point) (f : ℕ) (both : Bool) (c d e : Bool) → c ≡ true → d ≡ true → e ≡ false
+    → ◌≡◌ {A = Outcome} (cond (not c) (Err LineEnds) (cond (not d) (Err LineNotSimple) (cond e (Err LineBlocked) (with_parts (with_edge S a b line f) both (coming S a b line f) f)))) (Ok (with_edge_in both S a b line f))
+outcome_where S a b line f both true true false p q r = parts_are S a b line f both
+outcome_where S a b line f both false d e p q r = absurd cc
+outcome_where S a b line f both true false e p q r = absurd cc
+outcome_where S a b line f both true true true p q r = absurd cc
+
+pub accepted_where : (S : Drawing) (start end : ℕ) (a b : NodeRow) (line : List Point) (f : ℕ) (both : Bool) → node_at S start ≡ Some a → node_at S end ≡ Some b → goes_between a b line ≡ true → is_simple line ≡ true
+    → f ≡ face_at_start S a line → (is_line_blocked S line || not (face_at_end S b line == f)) ≡ false → add_edge both S (node_at S start) (node_at S end) line ≡ Ok (with_edge_in both S a b line f)
+accepted_where S start end a b line f both found_a found_b ends simple face free =
+    (λ i. add_edge both S (found_a i) (found_b i) line)
+    ∙ subst (λ (g : ℕ). add_edge both S (Some a) (Some b) line ≡ Ok (with_edge_in both S a b line g)) (sym face)
+    (outcome_where S a b line (face_at_start S a line) both (goes_between a b line) (is_simple line) (is_line_blocked S line || not (face_at_end S b line == face_at_start S a line)) ends simple
+    (subst (λ (g : ℕ). (is_line_blocked S line || not (face_at_end S b line == g)) ≡ false) face free))

@@ -1,0 +1,7 @@
+pub mod Ready
+pub mod Added
+pub mod Linked
+pub mod Divided
+pub mod Closing
+pub mod Wedges
+pub mod Answers
