@@ -1,5 +1,5 @@
 -- A drawing that is ready is ready for the planner of each edit.
-use Rattle.std.proofs.Common.{◌≡◌, ℕ, Bool, true, ◌&&◌, List, [], ◌∷◌, Option, Some, None, IsTrue, refl}
+use Rattle.std.proofs.Common.{◌≡◌, ℕ, Bool, true, ◌&&◌, List, [], ◌∷◌, Option, Some, None, IsTrue, refl, arith}
 use Rattle.std.specs.List.{list_all}
 use Rattle.std.proofs.lemmas.Bool.{and_parts, and_from}
 use Rattle.topo_base.specs.declared.rows.NodeRow.{NodeRow}
@@ -8,6 +8,7 @@ use Rattle.topo_model.specs.IsoEdits.{accepts_face}
 use Rattle.topo_model.specs.Subdivision.{ids_in_order, rows_in_order, face_id_of, is_edge_known, is_face_known, is_node_known}
 use Rattle.iso_edits.specs.Ready.{KnowsFaces, knows_containing, knows_sides}
 use Rattle.iso_edits.specs.Ready as iso
+use Rattle.face_merge.specs.Ready as merge
 use Rattle.face_split.specs.Ready as split
 use Rattle.reference_laws.specs.Referenced.{IsReferenced}
 use Rattle.edit_plan.specs.Ready.{IsReady}
@@ -53,3 +54,6 @@ ready_for_isolated S h = record { plain = h.kept.rings.rings.plain; faces = know
 
 pub ready_for_added : (S : Drawing) → IsReady S → split.IsReady S
 ready_for_added S h = record { ringed = h.kept.rings; ids = h.kept.ids; references = h.kept.references; edge_more = h.edge_more; face_more = h.face_more }
+
+pub ready_for_removed : (S : Drawing) → IsReady S → merge.IsReady S
+ready_for_removed S h = record { plain = h.kept.rings.rings.plain; ids = h.kept.ids; references = h.kept.references; face_more = omega (arith, h.face_more) }

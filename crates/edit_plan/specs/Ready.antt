@@ -1,7 +1,7 @@
 -- The drawings on which edits are planned, and the tables of a run.
 use Rattle.std.specs.Prelude.{◌≡◌, ◌+◌, ◌<◌, ◌^◌, Bool, true, false}
 use Rattle.topo_base.specs.declared.edit.Edit.{Edit}
-use Rattle.topo_base.specs.declared.edit.Edit.TheVariants.{AddIsoNode, MoveIsoNode, RemoveIsoNode, AddIsoEdge, RemoveIsoEdge, AddEdgeModFace, AddEdgeNewFaces}
+use Rattle.topo_base.specs.declared.edit.Edit.TheVariants.{AddIsoNode, MoveIsoNode, RemoveIsoNode, AddIsoEdge, RemoveIsoEdge, AddEdgeModFace, AddEdgeNewFaces, RemEdgeModFace, RemEdgeNewFace}
 use Rattle.topo_model.specs.Drawing.{Drawing}
 use Rattle.topo_model.specs.Tables.{Tables, tables_of, drawn}
 use Rattle.reference_laws.specs.Referenced.{IsReferenced}
@@ -24,7 +24,13 @@ adds_edge (AddEdgeModFace a b line) = true
 adds_edge (AddEdgeNewFaces a b line) = true
 adds_edge e = false
 
--- the edit is one of the seven
+-- the edit removes an edge that may have other edges at its ends
+abbrev pub removes_edge : Edit → Bool
+removes_edge (RemEdgeModFace edge) = true
+removes_edge (RemEdgeNewFace edge) = true
+removes_edge e = false
+
+-- the edit is one of the nine
 abbrev pub is_planned : Edit → Bool
 is_planned (AddIsoNode face p) = true
 is_planned (MoveIsoNode n p) = true
@@ -33,4 +39,6 @@ is_planned (AddIsoEdge a b line) = true
 is_planned (RemoveIsoEdge e) = true
 is_planned (AddEdgeModFace a b line) = true
 is_planned (AddEdgeNewFaces a b line) = true
+is_planned (RemEdgeModFace edge) = true
+is_planned (RemEdgeNewFace edge) = true
 is_planned e = false

@@ -2,7 +2,7 @@ ghost use Rattle.std.specs.Prelude.{◌≡◌, IsTrue};
 ghost use Rattle.read_set.specs.Answered.{IsAnswered};
 ghost use Rattle.read_set.specs.Planned.{IsEditor};
 ghost use Rattle.topo_model.specs.Tables.{drawn, tables_of};
-ghost use Rattle.edit_plan.specs.Ready.{IsReady, adds_edge, is_planned};
+ghost use Rattle.edit_plan.specs.Ready.{IsReady, adds_edge, is_planned, removes_edge};
 
 use read_set::{Plan, PlanEnd};
 use std::alloc::Global;
@@ -17,6 +17,17 @@ fn adds_edge(edit: &Edit) -> bool
     match edit {
         Edit::AddEdgeModFace { .. } => true,
         Edit::AddEdgeNewFaces { .. } => true,
+        _ => false,
+    }
+}
+
+/// Whether the edit removes an edge that may have other edges at its ends.
+fn removes_edge(edit: &Edit) -> bool
+    ensures { result ≡ removes_edge edit.now }
+{
+    match edit {
+        Edit::RemEdgeModFace { .. } => true,
+        Edit::RemEdgeNewFace { .. } => true,
         _ => false,
     }
 }
@@ -39,6 +50,8 @@ pub fn plan<L: Ledger>(
 {
     if adds_edge(&edit) {
         face_split::plan(alloc, excerpt, edit, editor, steps)
+    } else if removes_edge(&edit) {
+        face_merge::plan(alloc, excerpt, edit, editor, steps)
     } else {
         iso_edits::plan(alloc, excerpt, edit, editor, steps)
     }

@@ -119,6 +119,32 @@ fn add_edge_new_faces(alloc: Global, arguments: &[u8]) -> Result<Option<NamedEdi
     Ok(Some(NamedEdit::AddEdgeNewFaces { start, end, line }))
 }
 
+/// The edit `remedgemodface` with these arguments.
+fn rem_edge_mod_face(alloc: Global, arguments: &[u8]) -> Result<Option<NamedEdit>, Memory>
+    ensures { IfOk result (Finds (IsEdit (codes "remedgemodface" ∷ words_of arguments.now))) }
+{
+    let Some(edge) = one_word(arguments) else {
+        return Ok(None);
+    };
+    let Some(edge) = id_word(alloc, edge)? else {
+        return Ok(None);
+    };
+    Ok(Some(NamedEdit::RemEdgeModFace { edge }))
+}
+
+/// The edit `remedgenewface` with these arguments.
+fn rem_edge_new_face(alloc: Global, arguments: &[u8]) -> Result<Option<NamedEdit>, Memory>
+    ensures { IfOk result (Finds (IsEdit (codes "remedgenewface" ∷ words_of arguments.now))) }
+{
+    let Some(edge) = one_word(arguments) else {
+        return Ok(None);
+    };
+    let Some(edge) = id_word(alloc, edge)? else {
+        return Ok(None);
+    };
+    Ok(Some(NamedEdit::RemEdgeNewFace { edge }))
+}
+
 /// The edit of this word with these arguments. Each edit that a script can spell has its line here.
 pub fn edit_of(alloc: Global, word: &[u8], arguments: &[u8]) -> Result<Option<NamedEdit>, Memory>
     ensures { IfOk result (Finds (IsEdit (word.now ∷ words_of arguments.now))) }
@@ -143,6 +169,12 @@ pub fn edit_of(alloc: Global, word: &[u8], arguments: &[u8]) -> Result<Option<Na
     }
     if word == b"addedgenewfaces".as_slice() {
         return add_edge_new_faces(alloc, arguments);
+    }
+    if word == b"remedgemodface".as_slice() {
+        return rem_edge_mod_face(alloc, arguments);
+    }
+    if word == b"remedgenewface".as_slice() {
+        return rem_edge_new_face(alloc, arguments);
     }
     Ok(None)
 }

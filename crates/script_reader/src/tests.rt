@@ -130,6 +130,15 @@ fn added_edges_are_read(rt: HostRuntime) -> Result<(), Fail> {
 }
 
 #[test]
+fn removed_edges_are_read(rt: HostRuntime) -> Result<(), Fail> {
+    is_read(&rt, rt.alloc(), b"remedgemodface $fence".as_slice(), 1, 0);
+    is_read(&rt, rt.alloc(), b"yard = remedgenewface 7".as_slice(), 1, 1);
+    is_bad(&rt, rt.alloc(), b"remedgemodface".as_slice(), 1);
+    is_bad(&rt, rt.alloc(), b"remedgenewface 1 2".as_slice(), 1);
+    Ok(())
+}
+
+#[test]
 fn bad_isolated_edits_are_named(rt: HostRuntime) -> Result<(), Fail> {
     let rows = [
         "moveisonode",

@@ -3,11 +3,12 @@ use Rattle.std.proofs.Common.{true, false, ℕ, ◌+◌, ◌≤◌, Bool, List, 
 use Rattle.topo_base.specs.Point.{Point}
 use Rattle.topo_base.specs.declared.rows.NodeRow.{NodeRow}
 use Rattle.topo_base.specs.declared.edit.Edit.{Edit}
-use Rattle.topo_base.specs.declared.edit.Edit.TheVariants.{AddIsoNode, MoveIsoNode, RemoveIsoNode, AddIsoEdge, RemoveIsoEdge, AddEdgeModFace, AddEdgeNewFaces}
+use Rattle.topo_base.specs.declared.edit.Edit.TheVariants.{AddIsoNode, MoveIsoNode, RemoveIsoNode, AddIsoEdge, RemoveIsoEdge, AddEdgeModFace, AddEdgeNewFaces, RemEdgeModFace, RemEdgeNewFace}
 use Rattle.topo_model.specs.Drawing.{Drawing, Edge, node_at, edge_at}
 use Rattle.topo_model.specs.Outcome.{Accepted, Outcome}
 use Rattle.topo_model.specs.AddEdge.{add_edge}
 use Rattle.topo_model.specs.IsoEdits.{add_iso_node, move_iso_node, remove_iso_node, add_iso_edge, remove_iso_edge}
+use Rattle.topo_model.specs.RemoveEdge.{remove_edge}
 use Rattle.topo_model.specs.Replay.{drawing_of, front_after}
 use Rattle.topo_model.specs.Step.{step}
 use Rattle.topo_model.proofs.Keeping.{Keeps, refuses_or, either, accepted, refused}
@@ -50,6 +51,10 @@ new_edge both S None b line = refused HasFewMore S _
 new_edge both S (Some a) None line = refused HasFewMore S _
 new_edge both S (Some a) (Some b) line = search (arith, keeping)
 
+old_edge : (anew : Bool) (S : Drawing) (e : Option Edge) → Keeps HasFewMore S (remove_edge anew S e)
+old_edge anew S None = refused HasFewMore S _
+old_edge anew S (Some e) = search (arith, keeping)
+
 step_few : (S : Drawing) (e : Edit) → IsTrue (is_planned e) → Keeps HasFewMore S (step S e)
 step_few S (AddIsoNode face p) planned = add_node S face p
 step_few S (MoveIsoNode n p) planned = move_node S (node_at S n) p
@@ -58,6 +63,8 @@ step_few S (AddIsoEdge a b line) planned = lone_edge S (node_at S a) (node_at S 
 step_few S (RemoveIsoEdge e) planned = remove_lone_edge S (edge_at S e)
 step_few S (AddEdgeModFace a b line) planned = new_edge false S (node_at S a) (node_at S b) line
 step_few S (AddEdgeNewFaces a b line) planned = new_edge true S (node_at S a) (node_at S b) line
+step_few S (RemEdgeModFace e) planned = old_edge false S (edge_at S e)
+step_few S (RemEdgeNewFace e) planned = old_edge true S (edge_at S e)
 step_few S e planned = absurd cc
 
 -- ---- and its place

@@ -12,7 +12,7 @@ use Rattle.topo_base.specs.declared.element.Element.{Element}
 use Rattle.topo_base.specs.declared.answer.Answer.{Answer}
 use Rattle.topo_base.specs.declared.answer.Answer.TheVariants.{Done, Refused, Unbound, Stale, DiskFault, Memory}
 use Rattle.topo_base.specs.declared.named.NamedEdit.{NamedEdit}
-use Rattle.topo_base.specs.declared.named.NamedEdit.TheVariants.{AddIsoNode, MoveIsoNode, RemoveIsoNode, AddIsoEdge, RemoveIsoEdge, AddEdgeModFace, AddEdgeNewFaces}
+use Rattle.topo_base.specs.declared.named.NamedEdit.TheVariants.{AddIsoNode, MoveIsoNode, RemoveIsoNode, AddIsoEdge, RemoveIsoEdge, AddEdgeModFace, AddEdgeNewFaces, RemEdgeModFace, RemEdgeNewFace}
 use Rattle.edit_plan.specs.Ready.{is_planned}
 use Rattle.script_reader.specs.Bindings.{names_of}
 use Rattle.script_reader.specs.Built.{is_built, can_spell}
@@ -93,6 +93,8 @@ built_planned b (AddIsoEdge s t line) e good is = two_is is_planned (id_of b s) 
 built_planned b (RemoveIsoEdge n) e good is = one_is is_planned (id_of b n) _ e (λ n. refl) is
 built_planned b (AddEdgeModFace s t line) e good is = two_is is_planned (id_of b s) (id_of b t) _ e (λ n m. refl) is
 built_planned b (AddEdgeNewFaces s t line) e good is = two_is is_planned (id_of b s) (id_of b t) _ e (λ n m. refl) is
+built_planned b (RemEdgeModFace n) e good is = one_is is_planned (id_of b n) _ e (λ n. refl) is
+built_planned b (RemEdgeNewFace n) e good is = one_is is_planned (id_of b n) _ e (λ n. refl) is
 built_planned b n e good is = absurd cc
 
 pub line_planned : (b : Names) (l : ScriptLine) (e : Edit) → IsTrue (can_spell l) → resolve b l.edit ≡ Some e → IsTrue (is_planned e)

@@ -38,6 +38,21 @@ fn a_triangle_is_closed(rt: HostRuntime) -> Result<(), Fail> {
     Ok(())
 }
 
+/// A triangle is opened: face 0 takes its place.
+#[test]
+fn a_triangle_is_opened(rt: HostRuntime) -> Result<(), Fail> {
+    let alloc = rt.alloc();
+    let script = [
+        TRIANGLE,
+        "addedgemodface 3 1 0 4 0 0\nremedgenewface 2\nremedgemodface 9\n",
+    ]
+    .concat(alloc)?;
+    let rows =
+        "done edge 3 face 1 at 6\ndone face 0 at 7\nrefused NoEdge at 7\nnext 4 4 2 1 1\nnode 1 - 0 0\nnode 2 - 4 0\nnode 3 - 0 4\nedge 1 1 2 -1 -3 0 0 2 0 0 4 0\nedge 3 3 1 1 3 0 0 2 0 4 0 0\nface 0 -\n";
+    let due = [TRIANGLE_DUE, rows].concat(alloc)?;
+    answers(&rt, alloc, &script, &due, 1)
+}
+
 /// A triangle is an island in a square.
 #[test]
 fn an_island_divides_a_face(rt: HostRuntime) -> Result<(), Fail> {
@@ -133,6 +148,106 @@ fn added_edges_follow_their_rules(rt: HostRuntime) -> Result<(), Fail> {
     let script = [SQUARE, script].concat(alloc)?;
     let due = [SQUARE_DUE, replies, rows].concat(alloc)?;
     answers(&rt, alloc, &script, &due, 1)
+}
+
+/// A bridge between a square and an island in it comes, and goes again: nothing is divided or joined.
+#[test]
+fn a_bridge_goes(rt: HostRuntime) -> Result<(), Fail> {
+    let alloc = rt.alloc();
+    let script =
+        "addisonode - 0 0\naddedgemodface 1 1 0 0 9 0 9 9 0 9 0 0\naddisonode - 3 3\naddedgemodface 2 2 3 3 6 3 6 6 3 6 3 3\naddedgemodface 1 2 0 0 3 3\nremedgemodface 3\n";
+    let replies =
+        "done node 1 at 1\ndone edge 1 face 1 at 2\ndone node 2 at 3\ndone edge 2 face 2 at 4\ndone edge 3 at 5\ndone face 1 at 6\n";
+    let rows =
+        "next 3 4 3 1 1\nnode 1 - 0 0\nnode 2 - 3 3\nedge 1 1 1 1 -1 1 0 5 0 0 9 0 9 9 0 9 0 0\nedge 2 2 2 2 -2 2 1 5 3 3 6 3 6 6 3 6 3 3\nface 0 -\nface 1 0 0 9 9\nface 2 3 3 6 6\n";
+    let due = [replies, rows].concat(alloc)?;
+    answers(&rt, alloc, script, &due, 0)
+}
+
+/// The diagonal of a square goes: the face on its right stays, or a new face comes for both.
+#[test]
+fn two_faces_become_one(rt: HostRuntime) -> Result<(), Fail> {
+    let alloc = rt.alloc();
+    let rows = [
+        (
+            "addedgemodface 1 3 0 0 4 4\nremedgemodface 5\n",
+            "done edge 5 face 2 at 9\ndone face 1 at 10\nnext 5 6 3 1 1\n",
+            "edge 1 1 2 2 -4 1 0 2 0 0 4 0\nedge 2 2 3 3 -1 1 0 2 4 0 4 4\nedge 3 3 4 4 -2 1 0 2 4 4 0 4\nedge 4 4 1 1 -3 1 0 2 0 4 0 0\nface 0 -\nface 1 0 0 4 4\n",
+        ),
+        (
+            "addedgemodface 1 3 0 0 4 4\nremedgenewface 5\n",
+            "done edge 5 face 2 at 9\ndone face 3 at 10\nnext 5 6 4 1 1\n",
+            "edge 1 1 2 2 -4 3 0 2 0 0 4 0\nedge 2 2 3 3 -1 3 0 2 4 0 4 4\nedge 3 3 4 4 -2 3 0 2 4 4 0 4\nedge 4 4 1 1 -3 3 0 2 0 4 0 0\nface 0 -\nface 3 0 0 4 4\n",
+        ),
+    ];
+    let nodes = "node 1 - 0 0\nnode 2 - 4 0\nnode 3 - 4 4\nnode 4 - 0 4\n";
+    for (last, replies, edges) in rows {
+        let script = [SQUARE, last].concat(alloc)?;
+        let due = [SQUARE_DUE, replies, nodes, edges].concat(alloc)?;
+        answers(&rt, alloc, &script, &due, 0)?;
+    }
+    Ok(())
+}
+
+/// A triangle is opened, at an edge with face 0 on its right and at one with face 0 on its left.
+#[test]
+fn face_0_stays(rt: HostRuntime) -> Result<(), Fail> {
+    let alloc = rt.alloc();
+    let rows = [
+        "addedgemodface 3 1 0 4 0 0\nremedgenewface 3\n",
+        "addedgemodface 1 3 0 0 0 4\nremedgemodface 3\n",
+    ];
+    let replies = "done edge 3 face 1 at 6\ndone face 0 at 7\n";
+    let nodes = "next 4 4 2 1 1\nnode 1 - 0 0\nnode 2 - 4 0\nnode 3 - 0 4\n";
+    let edges = "edge 1 1 2 2 1 0 0 2 0 0 4 0\nedge 2 2 3 -2 -1 0 0 2 4 0 0 4\nface 0 -\n";
+    for last in rows {
+        let script = [TRIANGLE, last].concat(alloc)?;
+        let due = [TRIANGLE_DUE, replies, nodes, edges].concat(alloc)?;
+        answers(&rt, alloc, &script, &due, 0)?;
+    }
+    Ok(())
+}
+
+const YARD: &str = "addisonode - 0 0\naddedgemodface 1 1 0 0 9 0 9 9 0 9 0 0\naddisonode - 3 3\n";
+
+const YARD_DUE: &str = "done node 1 at 1\ndone edge 1 face 1 at 2\ndone node 2 at 3\n";
+
+/// An end node without other edges is isolated in the face that covers the place, also a new one; a node
+/// in a face that goes is in that face too.
+#[test]
+fn an_end_node_becomes_isolated(rt: HostRuntime) -> Result<(), Fail> {
+    let alloc = rt.alloc();
+    let rows = [
+        (
+            "addedgemodface 1 2 0 0 3 3\nremedgenewface 2\n",
+            "done edge 2 at 4\ndone face 1 at 5\nnext 3 3 2 1 1\nnode 1 - 0 0\nnode 2 1 3 3\n",
+            "edge 1 1 1 1 -1 1 0 5 0 0 9 0 9 9 0 9 0 0\nface 0 -\nface 1 0 0 9 9\n",
+        ),
+        (
+            "addisonode - 4 5\naddedgemodface 2 2 3 3 6 3 6 6 3 6 3 3\nremedgenewface 2\n",
+            "done node 3 at 4\ndone edge 2 face 2 at 5\ndone face 3 at 6\nnext 4 3 4 1 1\nnode 1 - 0 0\nnode 2 3 3 3\nnode 3 3 4 5\n",
+            "edge 1 1 1 1 -1 3 0 5 0 0 9 0 9 9 0 9 0 0\nface 0 -\nface 3 0 0 9 9\n",
+        ),
+    ];
+    for (last, more, edges) in rows {
+        let script = [YARD, last].concat(alloc)?;
+        let due = [YARD_DUE, more, edges].concat(alloc)?;
+        answers(&rt, alloc, &script, &due, 0)?;
+    }
+    Ok(())
+}
+
+/// An edge goes once. No feature can list an edge or a face so far, so no other rule refuses it.
+#[test]
+fn removed_edges_follow_their_rules(rt: HostRuntime) -> Result<(), Fail> {
+    let alloc = rt.alloc();
+    let script =
+        "addisonode - 0 0\naddisonode - 4 0\naddedgemodface 1 2 0 0 4 0\nremedgemodface 1\nremedgemodface 1\nremedgenewface 1\nremedgenewface $fence\n";
+    let replies =
+        "done node 1 at 1\ndone node 2 at 2\ndone edge 1 at 3\ndone face 0 at 4\nrefused NoEdge at 4\nrefused NoEdge at 4\nrefused Unbound\n";
+    let rows = "next 3 2 1 1 1\nnode 1 0 0 0\nnode 2 0 4 0\nface 0 -\n";
+    let due = [replies, rows].concat(alloc)?;
+    answers(&rt, alloc, script, &due, 1)
 }
 
 /// Three directions about a node, each pair of which has a cross product of 1, in this order: the links

@@ -81,6 +81,8 @@ fn copy_of(alloc: Global, edit: &Edit) -> Result<Edit, Memory>
             let (start, end, line) = (*start, *end, line.copy(alloc)?);
             Ok(Edit::AddEdgeNewFaces { start, end, line })
         }
+        Edit::RemEdgeModFace { edge } => Ok(Edit::RemEdgeModFace { edge: *edge }),
+        Edit::RemEdgeNewFace { edge } => Ok(Edit::RemEdgeNewFace { edge: *edge }),
         _ => unreachable!(),
     }
 }

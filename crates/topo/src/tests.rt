@@ -158,7 +158,7 @@ fn bad_lines_are_named(rt: HostRuntime) -> Result<(), Fail> {
         ("addisoedge 1 2 0 0 4\n", "fault line 1\n"),
         ("removeisoedge\n", "fault line 1\n"),
         ("addedgemodface 1 2 0 0 4\n", "fault line 1\n"),
-        ("remedgemodface 1\n", "fault line 1\n"),
+        ("modedgesplit 1\n", "fault line 1\n"),
     ];
     for (script, due) in rows {
         let mut source = MemSource::plain(alloc, script.as_bytes().to_vec(alloc)?);

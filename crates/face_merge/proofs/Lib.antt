@@ -1,0 +1,4 @@
+pub mod DroppedRows
+pub mod EdgeGone
+pub mod SameNumbers
+pub mod Answering

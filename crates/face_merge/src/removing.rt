@@ -1,0 +1,101 @@
+// An edge that goes, whose faces and nodes are still as they were.
+ghost use Rattle.std.specs.Prelude.{◌≡◌, ◌∷◌, ◌++◌, ◌==◌, [], IfOk, OnOk, Contains, if◌then◌else◌};
+ghost use Rattle.topo_model.specs.PlainLaw.{IsPlainInOrder};
+ghost use Rattle.topo_model.specs.Tables.{drawn, tables_of};
+ghost use Rattle.edge_links.specs.LinksLaw.{HasDirections};
+ghost use Rattle.edge_links.specs.UnlinksLaw.{dropped_rows, unlinks_at, unlinks_of};
+ghost use Rattle.read_set.specs.Drafted.{IsDraftOf};
+
+use edge_links::{star_about, unlink_writes};
+use read_set::Draft;
+use std::alloc::Global;
+use std::sync::ledger::Ledger;
+use topo_base::{EdgeId, EdgeRow, Memory, NodeId, RowId, RowWrite, Steps};
+use topo_tables::{Excerpt, Writes};
+
+/// The writes of the links about a node at which an edge that goes begins or ends.
+fn unlinks_at(
+    alloc: Global,
+    excerpt: &Excerpt,
+    edge: EdgeId,
+    node: NodeId,
+) -> Result<Writes, Memory>
+    requires { IsPlainInOrder (drawn excerpt.now.rows) }
+    ensures links { IfOk result (λ ws. ws ≡ unlinks_at (drawn excerpt.now.rows) edge node) }
+    ensures some { IfOk result (λ _. HasDirections (drawn excerpt.now.rows) node) }
+{
+    let star = star_about(alloc, excerpt, node)?;
+    unlink_writes(alloc, &star, edge)
+}
+
+/// Those at its end, where it isn't closed: then they are those at its start.
+fn unlinks_at_end(
+    alloc: Global,
+    excerpt: &Excerpt,
+    edge: EdgeId,
+    start: NodeId,
+    end: NodeId,
+) -> Result<Writes, Memory>
+    requires { IsPlainInOrder (drawn excerpt.now.rows) }
+    ensures links { IfOk result (λ ws. ws ≡ (if start == end then [] else unlinks_at (drawn excerpt.now.rows) edge end)) }
+    ensures some { HasDirections (drawn excerpt.now.rows) start → IfOk result (λ _. HasDirections (drawn excerpt.now.rows) end) }
+{
+    if start.0 == end.0 {
+        return Ok(Writes::new(alloc));
+    }
+    unlinks_at(alloc, excerpt, edge, end)
+}
+
+/// Puts writes behind others.
+fn append(writes: &mut Writes, more: Writes) -> Result<(), Memory>
+    ensures { OnOk result (writes.new ≡ writes.old ++ more) }
+{
+    for one in more.into_vec() {
+        writes.push(one)?;
+    }
+    Ok(())
+}
+
+/// The row writes of an edge that goes: its row, and then the links at its nodes.
+fn drop_writes(
+    alloc: Global,
+    excerpt: &Excerpt,
+    edge: EdgeId,
+    start: NodeId,
+    end: NodeId,
+) -> Result<Writes, Memory>
+    requires { IsPlainInOrder (drawn excerpt.now.rows) }
+    ensures writes { IfOk result (λ ws. ws ≡ RowWrite.DropEdge (RowId.Old edge) ∷ unlinks_of (drawn excerpt.now.rows) edge start end) }
+    ensures start { IfOk result (λ _. HasDirections (drawn excerpt.now.rows) start) }
+    ensures end { IfOk result (λ _. HasDirections (drawn excerpt.now.rows) end) }
+{
+    let at_start = unlinks_at(alloc, excerpt, edge, start)?;
+    let at_end = unlinks_at_end(alloc, excerpt, edge, start, end)?;
+    let mut writes = Writes::new(alloc);
+    writes.push(RowWrite::DropEdge {
+        edge: RowId::Old(edge.0),
+    })?;
+    append(&mut writes, at_start)?;
+    append(&mut writes, at_end)?;
+    Ok(writes)
+}
+
+/// A draft from which the edge has gone. All links are right. The faces on its sides, the nodes at its
+/// ends and the boxes are still as they were.
+pub fn drop_from_draft<L: Ledger>(
+    alloc: Global,
+    excerpt: &Excerpt,
+    edge: &EdgeRow,
+    steps: &mut Steps<L>,
+) -> Result<Draft, Memory>
+    requires plain { IsPlainInOrder (drawn excerpt.now.rows) }
+    requires stands { excerpt.now.rows ≡ tables_of (drawn excerpt.now.rows) }
+    requires there { Contains excerpt.now.rows.edges edge.now }
+    ensures draft { IfOk result (λ d. IsDraftOf (drawn excerpt.now.rows) d) }
+    ensures rows { IfOk result (λ d. d.rows ≡ dropped_rows (drawn excerpt.now.rows) edge.now.edge_id) }
+{
+    let writes = drop_writes(alloc, excerpt, edge.edge_id, edge.start_node, edge.end_node)?;
+    let mut draft = Draft::of(alloc, excerpt)?;
+    draft.write_all(alloc, writes, steps)?;
+    Ok(draft)
+}

@@ -1,0 +1,6 @@
+pub mod Sides
+pub mod MergedSides
+pub mod Last
+pub mod Merge
+pub mod Merging
+pub mod KnownRows
