@@ -5,12 +5,13 @@ use Rattle.std.specs.List.{Contains, list_all}
 use Rattle.std.proofs.lemmas.Bool.{and_parts, or_cases, cases_eq, both_ways as both_true}
 use Rattle.std.proofs.lemmas.Grind.{reverse_onto}
 use Rattle.std.proofs.lemmas.List.{reverse-reverse}
+use Rattle.topo_base.specs.Darts.{same_way}
 use Rattle.topo_base.specs.Point.{Point}
 use Rattle.topo_base.specs.RationalPoint.{RationalPoint, IsAt}
 use Rattle.topo_base.specs.declared.rows.NodeRow.{NodeRow}
 use Rattle.topo_model.specs.Direction.{first_direction, direction_to, OneDirection, IsNotZero}
 use Rattle.topo_model.specs.Drawing.{Edge, is_end_of}
-use Rattle.topo_model.specs.HalfEdge.{HalfEdge, forward_of, backward_of, both_ways, leaves, same_half_edge, same_way}
+use Rattle.topo_model.specs.HalfEdge.{HalfEdge, forward_of, backward_of, both_ways, leaves, same_half_edge}
 use Rattle.topo_model.specs.Line.{segments_of, first_vertex, last_vertex, is_proper}
 use Rattle.topo_model.specs.Plain.{IsSimpleLine}
 use Rattle.topo_model.specs.RationalTests.{IsOn, IsOnLine, IsOnEdge}

@@ -3,11 +3,11 @@ use Rattle.std.proofs.Common.{◌≡◌, ℕ, suc, ◌+◌, ◌<◌, arith, refl
 use Rattle.std.specs.Prelude.{◌==◌, if◌then◌else◌, Any, IsTrue}
 use Rattle.std.specs.List.{Contains}
 use Rattle.std.proofs.lemmas.Bool.{and_parts, and_from, both_ways, cases_eq, false_from_ne_true}
+use Rattle.topo_base.specs.Darts.{same_dart, same_way}
 use Rattle.topo_base.specs.declared.ids.Dart.{Dart}
 use Rattle.topo_model.proofs.ListTests.{contains_here, contains_there, contains_cases, contains_none}
 use Rattle.topo_model.proofs.Members.{contains-filter}
-use Rattle.topo_model.specs.HalfEdge.{same_way}
-use Rattle.edge_links.specs.Links.{same_dart, place_of, dart_after}
+use Rattle.edge_links.specs.Links.{place_of, dart_after}
 use Rattle.edge_links.specs.Unlinks.{is_other, others, stands_before, before_gone}
 use Rattle.edge_links.proofs.Following.{at_has}
 use Rattle.edge_links.proofs.Half.{way_same}

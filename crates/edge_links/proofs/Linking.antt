@@ -2,13 +2,13 @@
 use Rattle.std.proofs.Common.{◌≡◌, refl, ◌∙◌, ap, Bool, true, false, not, cond, eqb, List, [], ◌∷◌, ◌++◌, map}
 use Rattle.std.specs.Prelude.{◌&&◌, ◌||◌, ◌==◌, if◌then◌else◌}
 use Rattle.std.specs.List.{Contains, list_any}
+use Rattle.topo_base.specs.Darts.{same_way}
 use Rattle.topo_base.specs.declared.ids.Dart.{Dart}
 use Rattle.topo_base.specs.declared.rows.Counters.{Counters}
 use Rattle.topo_base.specs.declared.rows.EdgeRow.{EdgeRow}
 use Rattle.topo_base.specs.declared.write.RowWrite.{RowWrite}
 use Rattle.topo_model.proofs.ListTests.{contains_here, contains_there}
 use Rattle.topo_model.specs.Drawing.{Edge}
-use Rattle.topo_model.specs.HalfEdge.{same_way}
 use Rattle.topo_model.specs.Tables.{Tables}
 use Rattle.topo_model.specs.Writes.{written, all_written, with_next, edge_row_id}
 use Rattle.edge_links.specs.Links.{hand_back, link_back}

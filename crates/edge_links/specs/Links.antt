@@ -8,11 +8,7 @@ use Rattle.topo_base.specs.declared.write.Hand.{Hand}
 use Rattle.topo_base.specs.declared.write.Hand.TheVariants.{Left, Right}
 use Rattle.topo_base.specs.declared.write.RowWrite.{RowWrite}
 use Rattle.topo_base.specs.declared.write.RowWrite.TheVariants.{SetNext}
-use Rattle.topo_model.specs.HalfEdge.{same_way}
-
--- the same dart
-abbrev pub same_dart : Dart → Dart → Bool
-same_dart d c = d.edge == c.edge && same_way d.forward c.forward
+use Rattle.topo_base.specs.Darts.{same_dart}
 
 -- where a dart stands
 abbrev pub place_of : Dart → List Dart → ℕ

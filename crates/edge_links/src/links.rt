@@ -1,17 +1,11 @@
 ghost use Rattle.std.specs.Prelude.{◌≡◌, ◌↔◌, ◌<◌, length, Any, IfOk, IsTrue};
-ghost use Rattle.edge_links.specs.Links.{dart_after, dart_at, dart_before, hand_back, index_after, index_before, link_back, links_round, place_of, row_dart, same_dart};
+ghost use Rattle.topo_base.specs.Darts.{same_dart};
+ghost use Rattle.edge_links.specs.Links.{dart_after, dart_at, dart_before, hand_back, index_after, index_before, link_back, links_round, place_of, row_dart};
 
 use crate::star::Star;
 use std::alloc::Global;
-use topo_base::{Dart, Hand, Memory, RowDart, RowId, RowWrite};
+use topo_base::{Dart, Hand, Memory, RowDart, RowId, RowWrite, is_same_dart};
 use topo_tables::Writes;
-
-/// Whether two darts are one.
-fn is_same_dart(dart: &Dart, other: &Dart) -> bool
-    ensures { result ≡ same_dart dart.now other.now }
-{
-    dart.edge.0 == other.edge.0 && dart.forward == other.forward
-}
 
 /// Where the dart stands among these, or their number.
 pub(crate) fn place_of(darts: &[Dart], dart: &Dart) -> usize

@@ -1,6 +1,7 @@
 ghost use Rattle.std.specs.Prelude.{◌≡◌, ◌<◌, ◌+◌, ℕ, length, drop, Any, IfOk, IsTrue};
+ghost use Rattle.topo_base.specs.Darts.{same_dart};
 ghost use Rattle.topo_base.specs.declared.ids.Dart.{Dart as DartValue};
-ghost use Rattle.edge_links.specs.Links.{dart_after, dart_at, same_dart};
+ghost use Rattle.edge_links.specs.Links.{dart_after, dart_at};
 ghost use Rattle.edge_links.specs.Unlinks.{is_other, others, stands_before, unlinks_round};
 
 use crate::links::{index_after, link_back, place_of};

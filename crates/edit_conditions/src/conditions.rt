@@ -12,7 +12,7 @@ ghost use Rattle.topo_model.specs.IsoEdits.{accepts_face, is_given_face, is_in_f
 ghost use Rattle.topo_model.specs.Line.{is_inside_line, meets_at_own_ends};
 ghost use Rattle.topo_model.specs.LinePoints.{has_proper_segments};
 ghost use Rattle.topo_model.specs.Plain.{IsPlain};
-ghost use Rattle.topo_model.specs.Relations.{is_hierarchical, lists_element};
+ghost use Rattle.topo_model.specs.Relations.{lists_element};
 ghost use Rattle.topo_model.specs.Tables.{drawn, drawn_edge};
 
 use crate::row_tests::{
@@ -20,10 +20,9 @@ use crate::row_tests::{
 };
 use crate::scan::any_row;
 use grid_lines::{first_of, is_same_point, last_of};
+use relation_rows::lists_element;
 use std::sync::ledger::Ledger;
-use topo_base::{
-    EdgeId, EdgeRow, FaceId, Grid, LayerId, Line, NodeId, NodeRow, RelationRow, Steps,
-};
+use topo_base::{EdgeId, EdgeRow, FaceId, Grid, Line, NodeId, NodeRow, Steps};
 use topo_tables::Tables;
 
 /// Whether the face is there, where one is given.
@@ -183,34 +182,6 @@ pub fn is_isolated_edge<L: Ledger>(tables: &Tables, edge: &EdgeRow, steps: &mut 
     edge.start_node.0 != edge.end_node.0
         && has_only(tables, edge.start_node, edge.edge_id, edge.edge_id, steps)
         && has_only(tables, edge.end_node, edge.edge_id, edge.edge_id, steps)
-}
-
-/// Whether the layer is there and has a child.
-fn is_hierarchical<L: Ledger>(tables: &Tables, layer: LayerId, steps: &mut Steps<L>) -> bool
-    ensures test { result ≡ is_hierarchical (drawn tables.now.rows) layer }
-    ensures counted { steps.new ≡ steps.old + 1 }
-{
-    match tables.layer(layer, steps) {
-        None => false,
-        Some(row) => row.child_id.is_some(),
-    }
-}
-
-/// Whether the row lists the element of this type.
-fn lists_element<L: Ledger>(
-    tables: &Tables,
-    element_type: u32,
-    id: u32,
-    row: &RelationRow,
-    steps: &mut Steps<L>,
-) -> bool
-    ensures test { result ≡ lists_element (drawn tables.now.rows) element_type id row.now }
-    ensures counted { steps.new ≤ steps.old + 2 }
-{
-    steps.tick();
-    row.element_type == element_type
-        && row.element_id == id
-        && !is_hierarchical(tables, row.layer_id, steps)
 }
 
 /// Whether a feature lists the element of this type.

@@ -12,13 +12,12 @@ use Rattle.topo_base.specs.declared.rows.Box4.{Box4}
 use Rattle.topo_base.specs.declared.rows.Counters.{Counters}
 use Rattle.topo_base.specs.declared.rows.FaceRow.{FaceRow}
 use Rattle.topo_base.specs.declared.write.RowId.TheVariants.{Old}
-use Rattle.topo_base.specs.declared.write.RowWrite.{RowWrite}
 use Rattle.topo_base.specs.declared.write.RowWrite.TheVariants.{SetBox}
 use Rattle.topo_model.specs.Drawing.{Drawing, Edge, edge_id_of}
 use Rattle.topo_model.specs.Rows.{has_row, without_row, with_change}
 use Rattle.topo_model.specs.Tables.{Tables, wider, box_at, least_box, has_side, face_box, face_row}
 use Rattle.topo_model.specs.Writable.{CanWriteAll, has_face_row}
-use Rattle.topo_model.specs.Writes.{all_written, face_row_id, written}
+use Rattle.topo_model.specs.Writes.{all_written, face_row_id}
 use Rattle.topo_model.proofs.ListTests.{contains_here, contains_there}
 use Rattle.topo_model.proofs.Ordering.{InOrder, first_of}
 use Rattle.face_boxes.specs.Bounds.{grown, is_left_out, box_with, box_write, other_write, without}
@@ -193,14 +192,6 @@ boxes_go S T e left right gone only is_left is_right =
     ∙ rows_go (face_row S) (face_row T) S.faces l r right (record { id = λ g. refl }) (record { id = λ g. refl }) refl (is_right ∙ same_box r) stays
 
 -- ---- writes one after the other
-pub written_more : (n : Counters) (t : Tables) (ws us : List RowWrite) → all_written n t (ws ++ us) ≡ all_written n (all_written n t ws) us
-written_more n t [] us = refl
-written_more n t (w ∷ ws) us = written_more n (written n t w) ws us
-
-pub can_more : (n : Counters) (t : Tables) (ws us : List RowWrite) → CanWriteAll n t ws → CanWriteAll n (all_written n t ws) us → CanWriteAll n t (ws ++ us)
-can_more n t [] us can more = more
-can_more n t (w ∷ ws) us can more = (can.0, can_more n (written n t w) ws us can.1 more)
-
 pub box_written : (n : Counters) (t : Tables) (f : ℕ) (bounds : Option Box4) → all_written n t (box_write f bounds) ≡ record t { faces = boxed f bounds t.faces }
 box_written n t f bounds = by (eqb f 0)
   where

@@ -23,8 +23,9 @@ use Rattle.topo_model.specs.Writes.{all_written, face_row_id}
 use Rattle.topo_model.proofs.ListTests.{contains_here, contains_there}
 use Rattle.topo_model.proofs.Members.{ids_within}
 use Rattle.topo_model.proofs.Ordering.{InOrder, InOrder-push, first_of}
+use Rattle.topo_model.proofs.WritesInOrder.{can_write-append, written-append}
 use Rattle.face_boxes.specs.Bounds.{box_write}
-use Rattle.face_boxes.proofs.Boxes.{AreRows, beside_same, boxed, boxed_is, boxed_there, box_written, can_box, can_more, chosen, chosen_rows, map_same, points_of, written_more}
+use Rattle.face_boxes.proofs.Boxes.{AreRows, beside_same, boxed, boxed_is, boxed_there, box_written, can_box, chosen, chosen_rows, map_same, points_of}
 
 -- ---- edges whose sides change in one face alone
 -- the lines of the edges that have the face on a side
@@ -206,7 +207,7 @@ below_more a b h = omega (arith, h)
 -- two boxes set
 pub both_written : (n : Counters) (t : Tables) (l r : ℕ) (left right : Option Box4) → all_written n t (box_write l left ++ box_write r right) ≡ record t { faces = boxed r right (boxed l left t.faces) }
 both_written n t l r left right =
-    written_more n t (box_write l left) (box_write r right)
+    written-append n t (box_write l left) (box_write r right)
     ∙ ap (λ (u : Tables). all_written n u (box_write r right)) (box_written n t l left)
     ∙ box_written n (record t { faces = boxed l left t.faces }) r right
 
@@ -222,7 +223,7 @@ has_mapped old (g ∷ fs) f are = let first = are.id g in let rest = has_mapped 
 
 pub can_both : (n : Counters) (t : Tables) (l r : ℕ) (left right : Option Box4) → IsTrue (has_face_row t l) → IsTrue (has_face_row t r) → CanWriteAll n t (box_write l left ++ box_write r right)
 can_both n t l r left right at_left at_right =
-    can_more n t (box_write l left) (box_write r right) (can_box n t l left at_left)
+    can_write-append n t (box_write l left) (box_write r right) (can_box n t l left at_left)
     (subst (λ (u : Tables). CanWriteAll n u (box_write r right)) (sym (box_written n t l left))
     (can_box n (record t { faces = boxed l left t.faces }) r right (subst IsTrue (sym (boxed_there t.faces l r left)) at_right)))
 
@@ -364,7 +365,7 @@ pub two_written : (n : Counters) (t : Tables) (S U : Drawing) (f : ℕ) (left ri
     → all_written n t (box_write S.next_ids.face left ++ box_write (S.next_ids.face + 1) right ++ DropFace (Old f) ∷ [])
     ≡ record t { faces = map (face_row U) (filter (λ g. not (g == f)) S.faces ++ S.next_ids.face ∷ (S.next_ids.face + 1) ∷ []) }
 two_written n t S U f left right ordered listed keeps is_left is_right begun =
-    written_more n t (box_write l left ++ box_write r right) (DropFace (Old f) ∷ [])
+    written-append n t (box_write l left ++ box_write r right) (DropFace (Old f) ∷ [])
     ∙ ap (λ (u : Tables). all_written n u (DropFace (Old f) ∷ [])) (both_written n t l r left right)
     ∙ ap (λ (rows : List FaceRow). record t { faces = rows }) rows
   where
@@ -418,7 +419,7 @@ two_written n t S U f left right ordered listed keeps is_left is_right begun =
 pub two_can : (n : Counters) (t : Tables) (S : Drawing) (f : ℕ) (left right : Option Box4) → InOrder face_id_of 0 S.next_ids.face S.faces → IsTrue (has_face S f) → eqb f 0 ≡ false
     → t.faces ≡ rows_with_two S → CanWriteAll n t (box_write S.next_ids.face left ++ box_write (S.next_ids.face + 1) right ++ DropFace (Old f) ∷ [])
 two_can n t S f left right ordered listed some begun =
-    can_more n t (box_write l left ++ box_write r right) (DropFace (Old f) ∷ []) boxes
+    can_write-append n t (box_write l left ++ box_write r right) (DropFace (Old f) ∷ []) boxes
     (subst (λ (u : Tables). CanWriteAll n u (DropFace (Old f) ∷ [])) (sym (both_written n t l r left right)) ((at_last, not_zero), tt))
   where
     l : ℕ

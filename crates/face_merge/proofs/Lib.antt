@@ -1,4 +1,3 @@
 pub mod DroppedRows
 pub mod EdgeGone
-pub mod SameNumbers
 pub mod Answering

@@ -1,3 +1,1 @@
 pub mod Ready
-pub mod Features
-pub mod Answers

@@ -6,7 +6,6 @@
 //! left to whoever keeps the tables.
 #![tactic(auto)]
 
-mod features;
 mod planning;
 mod removing;
 

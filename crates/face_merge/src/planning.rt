@@ -9,14 +9,14 @@ ghost use Rattle.topo_model.specs.Tables.{drawn, drawn_edge, tables_of};
 ghost use Rattle.merged_faces.specs.Merging.{with_merged};
 ghost use Rattle.read_set.specs.Answered.{IsAnswered};
 ghost use Rattle.read_set.specs.Planned.{IsEditor};
-ghost use Rattle.face_merge.specs.Answers.{AnswersOutcome, IsEdited};
+ghost use Rattle.read_set.specs.Edited.{AnswersOutcome, IsEdited};
 ghost use Rattle.face_merge.specs.Ready.{IsReady, is_planned};
 
-use crate::features::have_same_features;
 use crate::removing::drop_from_draft;
 use edit_conditions::is_in_feature;
 use merged_faces::{Removed, merge_faces};
-use read_set::{Draft, Plan, PlanEnd};
+use read_set::{Edited, Plan, PlanEnd};
+use relation_rows::have_same_features;
 use std::alloc::Global;
 use std::sync::ledger::Ledger;
 use topo_base::{EdgeId, EdgeRow, Edit, Element, Ids, Memory, Rule, Steps};
@@ -26,13 +26,6 @@ use topo_tables::{Excerpt, Tables};
 const EDGE_TYPE: u32 = 2;
 
 const FACE_TYPE: u32 = 3;
-
-/// The draft of an edit, and what its reply names.
-#[derive(Drop)]
-struct Edited {
-    draft: Draft,
-    ids: Ids,
-}
 
 /// The draft of an edge that may go.
 fn without_edge<L: Ledger>(

@@ -46,16 +46,6 @@ fn unlinks_at_end(
     unlinks_at(alloc, excerpt, edge, end)
 }
 
-/// Puts writes behind others.
-fn append(writes: &mut Writes, more: Writes) -> Result<(), Memory>
-    ensures { OnOk result (writes.new ≡ writes.old ++ more) }
-{
-    for one in more.into_vec() {
-        writes.push(one)?;
-    }
-    Ok(())
-}
-
 /// The row writes of an edge that goes: its row, and then the links at its nodes.
 fn drop_writes(
     alloc: Global,
@@ -75,8 +65,8 @@ fn drop_writes(
     writes.push(RowWrite::DropEdge {
         edge: RowId::Old(edge.0),
     })?;
-    append(&mut writes, at_start)?;
-    append(&mut writes, at_end)?;
+    writes.append(at_start)?;
+    writes.append(at_end)?;
     Ok(writes)
 }
 

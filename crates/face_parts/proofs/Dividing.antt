@@ -5,6 +5,7 @@ use Rattle.std.specs.List.{Contains}
 use Rattle.std.specs.Option.{option_eq}
 use Rattle.std.proofs.lemmas.Bool.{false≢true}
 use Rattle.std.proofs.lemmas.List.Elements.{All-contains}
+use Rattle.topo_base.specs.Darts.{same_dart}
 use Rattle.topo_base.specs.Point.{Point}
 use Rattle.topo_base.specs.declared.ids.Dart.{Dart}
 use Rattle.topo_base.specs.declared.rows.Counters.{Counters}
@@ -19,8 +20,9 @@ use Rattle.topo_model.specs.Tables.{Tables, edge_row, tables_of}
 use Rattle.topo_model.specs.Writes.{all_written}
 use Rattle.topo_model.proofs.ListTests.{contains_none, Decides-any}
 use Rattle.topo_model.proofs.Members.{contains-mapped, contains-filtered}
+use Rattle.topo_model.proofs.WritesInOrder.{written-append}
 use Rattle.face_rings.specs.declared.content.BorderDart.{BorderDart}
-use Rattle.face_rings.specs.Border.{same_dart, has_dart, are_linked}
+use Rattle.face_rings.specs.Border.{has_dart, are_linked}
 use Rattle.face_rings.specs.Rings.{rings, ring_of as ring_of_dart}
 use Rattle.face_rings.specs.FaceBorder.{beside, border_dart, face_border, rings_beside, HasRings}
 use Rattle.face_rings.proofs.Dividing.{in_one}
@@ -38,7 +40,7 @@ use Rattle.face_parts.proofs.RowSides.{row_sides}
 use Rattle.face_parts.proofs.Lists.{found_one, map_agree, map_twice, gathered, gathered_from}
 use Rattle.face_parts.proofs.RingParts.{has_half_edge, point_is, part_is}
 use Rattle.face_parts.proofs.RingWrites.{AreParted, moved, wanted, rings_are}
-use Rattle.face_parts.proofs.SideWrites.{all_sides, sides_follow, written-append}
+use Rattle.face_parts.proofs.SideWrites.{all_sides, sides_follow}
 
 -- ---- darts and half-edges
 pub contains_has : (ds : List Dart) (d : Dart) → has_dart ds d ≡ true → Contains ds d

@@ -1,27 +1,24 @@
 -- The vertices of a ring of half-edges make a closed walk along their segments.
-use Rattle.std.proofs.Common.{◌≡◌, ℕ, zero, suc, ◌<◌, ◌≤◌, Bool, true, false, cond, not, List, [], ◌∷◌, ◌++◌, length, filter, refl, sym, ap, ◌∙◌, subst, arith, append_assoc, ⊎_elim}
+use Rattle.std.proofs.Common.{◌≡◌, ℕ, zero, suc, ◌<◌, ◌≤◌, Bool, true, false, cond, not, List, [], ◌∷◌, ◌++◌, length, filter, refl, sym, ap, ◌∙◌, subst, arith, append_assoc}
 use Rattle.std.specs.Prelude.{flat_map}
 use Rattle.std.specs.List.{Contains, list_all}
-use Rattle.std.proofs.lemmas.Bool.{and_parts, eqb-true, false≢true}
+use Rattle.std.proofs.lemmas.Bool.{and_parts, false≢true}
 use Rattle.std.proofs.lemmas.Bool.Decides.{Decides-not}
 use Rattle.std.proofs.lemmas.List.{length-append, length-map}
 use Rattle.topo_base.specs.Point.{Point, same_point}
 use Rattle.topo_model.specs.Drawing.{Drawing}
-use Rattle.topo_model.specs.HalfEdge.{HalfEdge, half_edges, twin, leaves, same_half_edge, dart_of}
+use Rattle.topo_model.specs.HalfEdge.{HalfEdge, half_edges, twin, same_half_edge, dart_of}
 use Rattle.topo_model.specs.Line.{segments_of, first_vertex, last_vertex, is_proper}
 use Rattle.topo_model.specs.Ring.{walk, ring_of, ring_segments, closed_segments}
-use Rattle.topo_model.specs.Star.{leaving, next_of}
+use Rattle.topo_model.specs.Star.{next_of}
 use Rattle.topo_model.proofs.LineTurns.{first-reverse}
-use Rattle.topo_model.proofs.Members.{contains-filtered}
-use Rattle.topo_model.proofs.PlainParts.{HasPoint}
-use Rattle.topo_model.proofs.PlainSplits.{one_point, id_point}
 use Rattle.topo_model.proofs.PointTests.{Decides-same_point}
 use Rattle.face_rings.specs.declared.content.BorderDart.{BorderDart}
 use Rattle.face_rings.specs.FaceBorder.{is_beside, beside, border_dart, face_border, HasRings}
 use Rattle.face_rings.proofs.FaceBorders.{has_plain_lines, half_by_dart, in_beside, has_half, border_linked}
 use Rattle.face_rings.proofs.HalfLines.{HasPlainLines}
-use Rattle.face_rings.proofs.HalvesApart.{half_of, line_of, twin_there}
-use Rattle.face_rings.proofs.NextApart.{IsFirst, may_follow, next_is, next_there}
+use Rattle.face_rings.proofs.HalvesApart.{half_of, line_of, one_start, twin_there}
+use Rattle.face_rings.proofs.NextApart.{next_from, next_there}
 use Rattle.face_rings.proofs.Orbits.{after, ComesBack, comes_back, linked_of}
 use Rattle.face_rings.proofs.Ranks.{same_out, same_in}
 use Rattle.face_rings.proofs.Reaching.{after_inner}
@@ -98,22 +95,6 @@ two_vertices h (k ∷ ks) proper leads =
     omega arith
 
 -- ---- the next half-edge begins where one ends
-next_from : (T : Drawing) (h : HalfEdge) → HasPlainLines T → Contains (half_edges T) h → (next_of (half_edges T) h).from_node ≡ h.to_node
-next_from T h good c =
-    let hs = half_edges T in
-    let next = next_of hs h in
-    ⊎_elim
-    (λ (p : (next ≡ twin h) × ((k : HalfEdge) → Contains (filter (may_follow h) hs) k → ⊥)). ap (λ (x : HalfEdge). x.from_node) p.0)
-    (λ (f : IsFirst (leaving (twin h)) (filter (may_follow h) hs) next).
-    let t = (contains-filtered (may_follow h) next hs f.there).1 in
-    eqb-true next.from_node h.to_node (and_parts (leaves h.to_node next) (not (same_half_edge next (twin h))) t).0)
-    (next_is T h good c)
-
-one_start : (T : Drawing) (n m : ℕ) (p r : Point) → HasPlainLines T → n ≡ m → HasPoint T.nodes n p → HasPoint T.nodes m r → p ≡ r
-one_start T n m p r good same (row, (c, (is, at))) there =
-    let other = id_point T.nodes row m r good.node_ids c (is ∙ same) there in
-    one_point p r (sym at.0 ∙ other.0, sym at.1 ∙ other.1)
-
 joins_next : (T : Drawing) (h : HalfEdge) → HasPlainLines T → Contains (half_edges T) h → last_vertex h.points ≡ first_vertex (next_of (half_edges T) h).points
 joins_next T h good c =
     let next = next_of (half_edges T) h in

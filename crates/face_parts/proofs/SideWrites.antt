@@ -2,30 +2,26 @@
 use Rattle.std.proofs.Common.{◌≡◌, ℕ, ◌+◌, ◌<◌, ◌≤◌, ◌&&◌, ◌||◌, Bool, true, false, cond, List, [], ◌∷◌, ◌++◌, map, Option, Some, None, refl, sym, ap, ◌∙◌, eqb, eqb-true, eq-eqb, arith}
 use Rattle.std.specs.Option.{option_eq}
 use Rattle.std.proofs.lemmas.Bool.Decides.{nat_tests}
+use Rattle.topo_base.specs.Darts.{same_way}
 use Rattle.topo_base.specs.Point.{Point}
 use Rattle.topo_base.specs.declared.ids.Dart.{Dart}
 use Rattle.topo_base.specs.declared.rows.Counters.{Counters}
 use Rattle.topo_base.specs.declared.rows.EdgeRow.{EdgeRow}
 use Rattle.topo_base.specs.declared.rows.NodeRow.{NodeRow}
 use Rattle.topo_base.specs.declared.write.RowId.TheVariants.{Old}
-use Rattle.topo_base.specs.declared.write.RowWrite.{RowWrite}
 use Rattle.topo_base.specs.declared.write.RowWrite.TheVariants.{SetContaining}
 use Rattle.topo_model.specs.Drawing.{node_id_of}
-use Rattle.topo_model.specs.HalfEdge.{same_way}
 use Rattle.topo_model.specs.Rows.{with_change}
 use Rattle.face_rings.specs.Border.{has_dart}
 use Rattle.topo_model.specs.Tables.{Tables}
-use Rattle.topo_model.specs.Writes.{all_written, written, edge_row_id, with_side}
+use Rattle.topo_model.specs.Writes.{all_written, edge_row_id, with_side}
 use Rattle.topo_model.proofs.Ordering.{InOrder, first_of}
+use Rattle.topo_model.proofs.WritesInOrder.{written-append}
 use Rattle.face_parts.specs.Sides.{dart_along, hand_of, set_side, part_or, with_parts, in_part, node_write, node_writes}
 use Rattle.face_parts.specs.SidesLaw.{SidesFollow}
 use Rattle.face_parts.proofs.RowSides.{row_sides}
 
 -- some writes, and then others
-pub written-append : (n : Counters) (t : Tables) (ws vs : List RowWrite) → all_written n t (ws ++ vs) ≡ all_written n (all_written n t ws) vs
-written-append n t [] vs = refl
-written-append n t (w ∷ ws) vs = written-append n (written n t w) ws vs
-
 -- ---- a change of one row among others
 abbrev pub AreBelow : {R : Type 0} → (R → ℕ) → ℕ → List R → Type 0
 AreBelow id n [] = Unit {0}

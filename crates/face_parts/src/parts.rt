@@ -1,11 +1,12 @@
 // The part of a divided face that has a point or a ring.
 ghost use Rattle.std.specs.Prelude.{◌≡◌, ◌≤◌, ◌+◌};
-ghost use Rattle.face_rings.specs.Border.{has_dart, same_dart};
+ghost use Rattle.topo_base.specs.Darts.{same_dart};
+ghost use Rattle.face_rings.specs.Border.{has_dart};
 ghost use Rattle.face_parts.specs.Divided.{part_of_point, part_of_ring, part_of_start, start_of, start_of_ring, vertex_along};
 
 use crate::cut::Cut;
 use std::sync::ledger::Ledger;
-use topo_base::{Dart, EdgeId, EdgeRow, FaceId, Grid, Steps};
+use topo_base::{Dart, EdgeId, EdgeRow, FaceId, Grid, Steps, is_same_dart};
 use topo_tables::Tables;
 
 /// A face that an edge divides, the edge, and the faces that the parts on its left and on its right are.
@@ -15,20 +16,6 @@ pub struct FaceParts {
     pub edge: EdgeId,
     pub left_part: FaceId,
     pub right_part: FaceId,
-}
-
-/// Whether two darts are one.
-fn is_same_dart(dart: &Dart, other: &Dart) -> bool
-    ensures { result ≡ same_dart dart.now other.now }
-{
-    if dart.edge.0 != other.edge.0 {
-        return false;
-    }
-    if dart.forward {
-        other.forward
-    } else {
-        !other.forward
-    }
 }
 
 /// Whether the dart is one of these.

@@ -3,11 +3,12 @@ use Rattle.std.proofs.Common.{◌≡◌, ℕ, zero, suc, ◌+◌, ◌-◌, ◌<�
 use Rattle.std.specs.Prelude.{filter}
 use Rattle.std.specs.List.{Contains}
 use Rattle.std.proofs.lemmas.Bool.{cases_order, cases_lt, false≢true, or_left, or_right}
+use Rattle.topo_base.specs.Darts.{same_dart}
 use Rattle.topo_base.specs.declared.ids.Dart.{Dart}
 use Rattle.topo_model.proofs.ListTests.{Decides-any}
 use Rattle.topo_model.proofs.Members.{contains-map, contains-mapped, contains-filter, contains-filtered}
 use Rattle.face_rings.specs.declared.content.BorderDart.{BorderDart}
-use Rattle.face_rings.specs.Border.{same_dart, darts_of, has_dart, next_dart, are_linked}
+use Rattle.face_rings.specs.Border.{darts_of, has_dart, next_dart, are_linked}
 use Rattle.face_rings.specs.Rings.{walk, ring_of, begins_ring, rings}
 use Rattle.face_rings.specs.RingLaw.{IsRingFrom, IsInOne, RingsDivide}
 use Rattle.face_rings.proofs.Ranks.{by_bool, rank, before_in, before_no, rank_same, same_out, same_in, same_self, Decides-same_dart}

@@ -5,6 +5,7 @@ use Rattle.std.specs.List.{Contains, All, list_all}
 use Rattle.std.proofs.lemmas.Bool.{and_from, eqb-true, eq-eqb, leb-true, false≢true}
 use Rattle.std.proofs.lemmas.List.{length-map}
 use Rattle.std.proofs.lemmas.List.Elements.{All-contains}
+use Rattle.topo_base.specs.Darts.{same_dart}
 use Rattle.topo_base.specs.declared.ids.Dart.{Dart}
 use Rattle.topo_model.specs.Drawing.{Drawing, Edge, node_id_of, edge_id_of}
 use Rattle.topo_model.specs.HalfEdge.{HalfEdge, forward_of, backward_of, both_ways, half_edges, same_half_edge, dart_of}
@@ -17,7 +18,7 @@ use Rattle.topo_model.proofs.Members.{contains-map, contains-mapped, contains-fi
 use Rattle.topo_model.proofs.PlainParts.{parts_of}
 use Rattle.topo_model.proofs.BlockedTests.{all_from}
 use Rattle.face_rings.specs.declared.content.BorderDart.{BorderDart}
-use Rattle.face_rings.specs.Border.{same_dart, dart_before, darts_ascend, darts_of, has_dart, next_dart, nexts_differ, are_linked}
+use Rattle.face_rings.specs.Border.{dart_before, darts_ascend, darts_of, has_dart, next_dart, nexts_differ, are_linked}
 use Rattle.face_rings.specs.Rings.{walk, ring_of, begins_ring, rings}
 use Rattle.face_rings.specs.FaceBorder.{is_beside, beside, border_dart, face_border, rings_beside, HasRings, RingsAreRight}
 use Rattle.face_rings.proofs.Ranks.{by_bool, turn, turn_small, rank, before_in, same_in}

@@ -132,7 +132,7 @@ line_of S h good r =
     r.way
 
 -- ---- two that leave one node
-one_start : (S : Drawing) (n m : ℕ) (p r : Point) → HasPlainLines S → n ≡ m → HasPoint S.nodes n p → HasPoint S.nodes m r → p ≡ r
+pub one_start : (S : Drawing) (n m : ℕ) (p r : Point) → HasPlainLines S → n ≡ m → HasPoint S.nodes n p → HasPoint S.nodes m r → p ≡ r
 one_start S n m p r good same (row, (c, (is, at))) there =
     let other = id_point S.nodes row m r good.node_ids c (is ∙ same) there in
     one_point p r (sym at.0 ∙ other.0, sym at.1 ∙ other.1)

@@ -5,10 +5,11 @@ use Rattle.std.proofs.lemmas.Bool.{or_cases, or_left, or_right, false≢true, fa
 use Rattle.std.proofs.lemmas.List.{length-map, length-set, length-replicate, get_or-replicate, get_or-map, get_or-set_same, get_or-set_other, map-append, append-nil, get_or_default, take_all, take_at}
 use Rattle.std.proofs.lemmas.List.Elements.{filter_more, Contains-get_or}
 use Rattle.std.proofs.lemmas.List.Folds.{list_any_more}
+use Rattle.topo_base.specs.Darts.{same_dart}
 use Rattle.topo_base.specs.declared.ids.Dart.{Dart}
 use Rattle.topo_model.proofs.Members.{contains-mapped}
 use Rattle.face_rings.specs.declared.content.BorderDart.{BorderDart}
-use Rattle.face_rings.specs.Border.{same_dart, dart_before, darts_ascend, darts_of, has_dart}
+use Rattle.face_rings.specs.Border.{dart_before, darts_ascend, darts_of, has_dart}
 use Rattle.face_rings.specs.Rings.{ring_of, begins_ring, rings, Marks}
 use Rattle.face_rings.proofs.Ranks.{rank, same_in, not_same, before_out, before_in, ranks_ascend, place_less, place_same}
 use Rattle.face_rings.proofs.Orbits.{Has, IsLinked}

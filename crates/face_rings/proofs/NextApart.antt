@@ -133,7 +133,7 @@ next_there S h good c =
     (λ (f : IsFirst (leaving (twin h)) (filter (may_follow h) (half_edges S)) (next_of (half_edges S) h)). (contains-filtered (may_follow h) (next_of (half_edges S) h) (half_edges S) f.there).0)
     (next_is S h good c)
 
-next_from : (S : Drawing) (h : HalfEdge) → HasPlainLines S → Contains (half_edges S) h → (next_of (half_edges S) h).from_node ≡ h.to_node
+pub next_from : (S : Drawing) (h : HalfEdge) → HasPlainLines S → Contains (half_edges S) h → (next_of (half_edges S) h).from_node ≡ h.to_node
 next_from S h good c =
     ⊎_elim
     (λ (p : (next_of (half_edges S) h ≡ twin h) × ((k : HalfEdge) → Contains (filter (may_follow h) (half_edges S)) k → ⊥)). ap (λ (x : HalfEdge). x.from_node) p.0)

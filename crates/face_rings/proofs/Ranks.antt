@@ -8,10 +8,10 @@ use Rattle.std.specs.Ordering.{ordering_index}
 use Rattle.std.specs.declared.cmp.Ordering.TheVariants.{Less, Equal, Greater}
 use Rattle.std.proofs.lemmas.Bool.{and_parts, and_from, or_cases, or_left, or_right, ltb-true, lt-ltb, eqb-true, eq-eqb, cases_order, false_from_ne_true, false≢true}
 use Rattle.std.proofs.lemmas.Bool.Decides.{same_from_decides}
+use Rattle.topo_base.specs.Darts.{same_dart, same_way}
 use Rattle.topo_base.specs.declared.ids.Dart.{Dart}
-use Rattle.topo_model.specs.HalfEdge.{same_way}
 use Rattle.face_rings.specs.declared.content.BorderDart.{BorderDart}
-use Rattle.face_rings.specs.Border.{same_dart, dart_before, dart_order, darts_ascend, next_dart}
+use Rattle.face_rings.specs.Border.{dart_before, dart_order, darts_ascend, next_dart}
 
 pub by_bool : (t : Bool) → (t ≡ true) ⊎ (t ≡ false)
 by_bool true = inl refl

@@ -4,9 +4,10 @@ use Rattle.std.specs.Prelude.{if◌then◌else◌}
 use Rattle.std.specs.List.{All, list_all}
 use Rattle.std.proofs.lemmas.Bool.{and_parts, and_from, or_cases, or_left, or_right, false≢true, false_from_ne_true}
 use Rattle.std.proofs.lemmas.List.Elements.{All-nil, All-cons}
+use Rattle.topo_base.specs.Darts.{same_dart}
 use Rattle.topo_base.specs.declared.ids.Dart.{Dart}
 use Rattle.face_rings.specs.declared.content.BorderDart.{BorderDart}
-use Rattle.face_rings.specs.Border.{same_dart, dart_before, has_dart, next_dart}
+use Rattle.face_rings.specs.Border.{dart_before, has_dart, next_dart}
 use Rattle.face_rings.specs.Rings.{walk, ring_of, begins_ring}
 use Rattle.face_rings.proofs.Ranks.{by_bool, same_out, same_in, same_self}
 use Rattle.face_rings.proofs.Orbits.{Has, IsLinked, next_known, after, after-add, after_known, ComesBack, comes_back}

@@ -4,6 +4,7 @@ use Rattle.std.specs.Prelude.{◌==◌, filter, flat_map}
 use Rattle.std.proofs.lemmas.Bool.{and_parts, and_from}
 use Rattle.std.proofs.lemmas.List.{append-nil, take_more, take_all, take-append-drop}
 use Rattle.std.proofs.lemmas.List.Concat.{flat_map-append}
+use Rattle.topo_base.specs.Darts.{same_dart}
 use Rattle.topo_base.specs.declared.ids.Dart.{Dart}
 use Rattle.topo_base.specs.declared.rows.EdgeRow.{EdgeRow}
 use Rattle.topo_model.specs.Drawing.{Edge}
@@ -12,7 +13,7 @@ use Rattle.topo_model.specs.Places.{rows_of, at_slot}
 use Rattle.topo_model.specs.Tables.{edge_row}
 use Rattle.topo_model.proofs.RowLemmas.{flat_map-places}
 use Rattle.face_rings.specs.declared.content.BorderDart.{BorderDart}
-use Rattle.face_rings.specs.Border.{same_dart, dart_before, darts_ascend}
+use Rattle.face_rings.specs.Border.{dart_before, darts_ascend}
 use Rattle.face_rings.specs.FaceBorder.{is_beside, border_dart}
 use Rattle.face_rings.specs.RowBorder.{only_if, row_border, rows_border, with_next}
 use Rattle.face_rings.proofs.Ranks.{rank, same_self, not_same, first_less, tail_ascends}

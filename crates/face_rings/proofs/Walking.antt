@@ -1,9 +1,10 @@
 -- The walk along a ring, dart by dart.
 use Rattle.std.proofs.Common.{◌≡◌, ℕ, suc, ◌-◌, ◌<◌, refl, sym, ◌∙◌, ap, subst, arith, ◌⊎◌, ⊎_elim, true, false, List, [], ◌∷◌, ◌++◌, length}
 use Rattle.std.proofs.lemmas.List.{append_assoc, length_push}
+use Rattle.topo_base.specs.Darts.{same_dart}
 use Rattle.topo_base.specs.declared.ids.Dart.{Dart}
 use Rattle.face_rings.specs.declared.content.BorderDart.{BorderDart}
-use Rattle.face_rings.specs.Border.{same_dart, next_dart}
+use Rattle.face_rings.specs.Border.{next_dart}
 use Rattle.face_rings.specs.Rings.{walk, ring_of}
 use Rattle.face_rings.proofs.Ranks.{same_in}
 use Rattle.face_rings.proofs.Orbits.{Has, IsLinked, next_known, after, bounded}

@@ -4,13 +4,10 @@ use Rattle.std.specs.List.{list_all, list_any}
 use Rattle.std.specs.declared.cmp.Ordering.{Ordering}
 use Rattle.std.specs.declared.cmp.Ordering.TheVariants.{Less, Equal, Greater}
 use Rattle.topo_base.specs.declared.ids.Dart.{Dart}
-use Rattle.topo_model.specs.HalfEdge.{same_way}
+use Rattle.topo_base.specs.Darts.{same_dart}
 use Rattle.face_rings.specs.declared.content.BorderDart.{BorderDart}
 
--- the same dart; the one that comes first: by edge, forward before backward
-abbrev pub same_dart : Dart → Dart → Bool
-same_dart d e = d.edge == e.edge && same_way d.forward e.forward
-
+-- the one that comes first: by edge, forward before backward
 abbrev pub dart_before : Dart → Dart → Bool
 dart_before d e = nat_lt d.edge e.edge || d.edge == e.edge && d.forward && not e.forward
 

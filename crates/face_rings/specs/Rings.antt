@@ -3,9 +3,10 @@ use Rattle.std.specs.Prelude.{◌≡◌, ℕ, zero, suc, ◌<◌, Bool, false, n
 use Rattle.std.specs.List.{list_all, slice_index_or}
 use Rattle.std.specs.declared.alloc.Global.{Global}
 use Rattle.std.specs.declared.vec.Vec.{Vec}
+use Rattle.topo_base.specs.Darts.{same_dart}
 use Rattle.topo_base.specs.declared.ids.Dart.{Dart}
 use Rattle.face_rings.specs.declared.content.BorderDart.{BorderDart}
-use Rattle.face_rings.specs.Border.{same_dart, dart_before, darts_of, has_dart, next_dart}
+use Rattle.face_rings.specs.Border.{dart_before, darts_of, has_dart, next_dart}
 
 -- the darts from d on, at most this many more, until the first is next
 abbrev pub walk : List BorderDart → Dart → ℕ → Dart → List Dart

@@ -1,9 +1,9 @@
 -- The border of a face out of rows of edges, and a border with a changed link.
 use Rattle.std.specs.Prelude.{ℕ, Bool, true, false, ◌==◌, List, [], ◌∷◌, ◌++◌, flat_map, map, if◌then◌else◌}
+use Rattle.topo_base.specs.Darts.{same_dart}
 use Rattle.topo_base.specs.declared.ids.Dart.{Dart}
 use Rattle.topo_base.specs.declared.rows.EdgeRow.{EdgeRow}
 use Rattle.face_rings.specs.declared.content.BorderDart.{BorderDart}
-use Rattle.face_rings.specs.Border.{same_dart}
 
 -- the darts of an edge that have the face on their left: the edge forward, and backward
 abbrev pub forward_dart : EdgeRow → BorderDart

@@ -1,18 +1,8 @@
 ghost use Rattle.std.specs.Prelude.{◌≡◌};
-ghost use Rattle.face_rings.specs.Border.{dart_before, dart_order, same_dart};
+ghost use Rattle.face_rings.specs.Border.{dart_before, dart_order};
 
 use std::cmp::Ordering;
 use topo_base::Dart;
-
-/// Whether two darts are one.
-pub(crate) fn is_same_dart(a: &Dart, b: &Dart) -> bool
-    ensures { result ≡ same_dart a.now b.now }
-{
-    if a.edge.0 != b.edge.0 {
-        return false;
-    }
-    if a.forward { b.forward } else { !b.forward }
-}
 
 /// Whether the first dart comes before the second: by edge, forward before backward.
 fn is_before(a: &Dart, b: &Dart) -> bool

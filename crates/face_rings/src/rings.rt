@@ -3,10 +3,9 @@ ghost use Rattle.face_rings.specs.Border.{are_linked, darts_of};
 ghost use Rattle.face_rings.specs.Rings.{darts_in, rings, ring_of as the_ring_of, Marks};
 
 use crate::content::FaceContent;
-use crate::order::is_same_dart;
 use crate::places::place_of;
 use std::alloc::Global;
-use topo_base::{Dart, Memory};
+use topo_base::{Dart, Memory, is_same_dart};
 
 /// The ring of a dart: the darts from it on, each of which is next after the one before, until it
 /// comes back (GetRingEdges).

@@ -16,10 +16,10 @@ use Rattle.topo_model.specs.Rows.{has_row}
 use Rattle.topo_model.specs.Tables.{Tables, tables_of, face_row}
 use Rattle.topo_model.specs.Writable.{CanWriteAll, has_face_row}
 use Rattle.topo_model.specs.Writes.{all_written, edge_row_id}
+use Rattle.topo_model.proofs.WritesInOrder.{can_write-append}
 use Rattle.edge_links.specs.LinksLaw.{HasDirections, link_writes_of, with_row}
 use Rattle.edge_links.proofs.RightLinks.{links_are_right}
 use Rattle.edit_conditions.proofs.IsolatedTests.{has_row-change}
-use Rattle.read_set.proofs.Drafting.{can_write-append}
 use Rattle.face_split.specs.Added.{own_dart, added_writes, added_rows}
 
 pub face_row_there : (S : Drawing) (f : ℕ) → has_face S f ≡ true → IsTrue (has_face_row (tables_of S) f)

@@ -23,7 +23,7 @@ use Rattle.topo_model.specs.Tables.{Tables}
 use Rattle.ring_laws.proofs.RingsStaying.{rings_stay}
 use Rattle.ring_laws.specs.Ringed.{IsRinged}
 use Rattle.face_split.specs.Added.{added_rows}
-use Rattle.face_split.specs.Answers.{IsPlaced}
+use Rattle.face_split.specs.Placing.{IsPlaced}
 use Rattle.face_split.specs.Closing.{HasAdded, WasAdded, left_ring, with_edge_in}
 use Rattle.face_split.specs.Ready.{IsReady}
 

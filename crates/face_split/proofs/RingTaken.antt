@@ -1,6 +1,7 @@
 -- The ring of an edge that came, in the tables, and whether it takes the edge both ways.
 use Rattle.std.proofs.Common.{◌≡◌, ℕ, Bool, true, false, List, [], ◌∷◌, map, cond, refl, sym, ap, ◌∙◌, subst}
 use Rattle.std.proofs.lemmas.List.Elements.{Contains-push}
+use Rattle.topo_base.specs.Darts.{same_dart}
 use Rattle.topo_base.specs.Point.{Point}
 use Rattle.topo_base.specs.declared.ids.Dart.{Dart}
 use Rattle.topo_base.specs.declared.rows.NodeRow.{NodeRow}
@@ -13,7 +14,7 @@ use Rattle.topo_model.specs.Outcome.{the_edge}
 use Rattle.topo_model.specs.Ring.{contains_half_edge, ring_of}
 use Rattle.topo_model.specs.Tables.{Tables, tables_of, drawn}
 use Rattle.face_rings.specs.declared.content.BorderDart.{BorderDart}
-use Rattle.face_rings.specs.Border.{has_dart, same_dart}
+use Rattle.face_rings.specs.Border.{has_dart}
 use Rattle.face_rings.specs.FaceBorder.{face_border}
 use Rattle.ring_laws.specs.Ringed.{IsRinged}
 use Rattle.face_split.specs.Added.{added_rows}

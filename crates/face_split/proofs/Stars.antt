@@ -3,11 +3,11 @@ use Rattle.std.proofs.Common.{◌≡◌, ℕ, zero, suc, Bool, true, false, cond
 use Rattle.std.specs.Prelude.{insert, Any}
 use Rattle.std.specs.List.{Contains}
 use Rattle.std.proofs.lemmas.Bool.{and_from}
+use Rattle.topo_base.specs.Darts.{same_dart, same_way}
 use Rattle.topo_base.specs.Point.{Point}
 use Rattle.topo_base.specs.declared.ids.Dart.{Dart}
 use Rattle.topo_model.proofs.ListTests.{contains_here, contains_there, contains_cases}
-use Rattle.topo_model.specs.HalfEdge.{same_way, leaves, forward_of, backward_of}
-use Rattle.edge_links.specs.Links.{same_dart}
+use Rattle.topo_model.specs.HalfEdge.{leaves, forward_of, backward_of}
 use Rattle.edge_links.specs.Rays.{Rays, edge_between, with_both, with_half_edge, with_ray, place_for}
 use Rattle.topo_model.specs.HalfEdge.{HalfEdge, dart_of}
 use Rattle.topo_model.specs.Star.{leaving}

@@ -4,4 +4,4 @@ pub mod Linked
 pub mod Divided
 pub mod Closing
 pub mod Wedges
-pub mod Answers
+pub mod Placing

@@ -1,5 +1,6 @@
 // An edge that comes into a face which it doesn't divide yet.
 ghost use Rattle.std.specs.Prelude.{◌≡◌, ◌∷◌, ◌++◌, ℕ, [], false, true, None, IfOk, OnOk, Any, IsTrue};
+ghost use Rattle.topo_base.specs.Darts.{same_dart};
 ghost use Rattle.topo_base.specs.declared.rows.NodeRow.{NodeRow as NodeValue};
 ghost use Rattle.topo_model.specs.Drawing.{has_face, has_node};
 ghost use Rattle.topo_model.specs.IsoEdits.{with_edge};
@@ -7,7 +8,6 @@ ghost use Rattle.topo_model.specs.LinePoints.{has_proper_segments};
 ghost use Rattle.topo_model.specs.Plain.{IsPlain};
 ghost use Rattle.topo_model.specs.PlainLaw.{IsPlainInOrder};
 ghost use Rattle.topo_model.specs.Tables.{drawn, tables_of};
-ghost use Rattle.edge_links.specs.Links.{same_dart};
 ghost use Rattle.edge_links.specs.LinksLaw.{HasDirections, IsComing, rays_at};
 ghost use Rattle.read_set.specs.Drafted.{IsDraftOf};
 ghost use Rattle.face_split.specs.Added.{added_rows, added_writes, from_node, links_at, own_dart};
@@ -112,16 +112,6 @@ fn not_isolated(node: NodeId) -> RowWrite
     }
 }
 
-/// Puts writes behind others.
-fn append(writes: &mut Writes, more: Writes) -> Result<(), Memory>
-    ensures { OnOk result (writes.new ≡ writes.old ++ more) }
-{
-    for one in more.into_vec() {
-        writes.push(one)?;
-    }
-    Ok(())
-}
-
 /// The row writes of the edge: its row, the links at both of its nodes, and the nodes.
 fn added_writes(
     alloc: Global,
@@ -140,8 +130,8 @@ fn added_writes(
     let at_end = links_at(alloc, excerpt, coming, line, false)?;
     let mut writes = Writes::new(alloc);
     writes.push(row_write(alloc, coming, line)?)?;
-    append(&mut writes, at_start)?;
-    append(&mut writes, at_end)?;
+    writes.append(at_start)?;
+    writes.append(at_end)?;
     writes.push(not_isolated(coming.end))?;
     writes.push(not_isolated(coming.start))?;
     Ok(writes)

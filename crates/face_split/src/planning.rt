@@ -9,7 +9,8 @@ ghost use Rattle.topo_model.specs.Step.{step};
 ghost use Rattle.topo_model.specs.Tables.{drawn, tables_of};
 ghost use Rattle.read_set.specs.Answered.{IsAnswered};
 ghost use Rattle.read_set.specs.Planned.{IsEditor};
-ghost use Rattle.face_split.specs.Answers.{AnswersOutcome, IsEdited, IsPlaced};
+ghost use Rattle.read_set.specs.Edited.{AnswersOutcome, IsEdited};
+ghost use Rattle.face_split.specs.Placing.{IsPlaced};
 ghost use Rattle.face_split.specs.Closing.{with_edge_in};
 ghost use Rattle.face_split.specs.Ready.{IsReady, is_planned};
 
@@ -18,18 +19,11 @@ use crate::finishing::finish;
 use crate::wedges::{face_at_end, face_at_start};
 use edit_conditions::{goes_between, is_line_blocked};
 use grid_lines::is_simple;
-use read_set::{Draft, Plan, PlanEnd};
+use read_set::{Edited, Plan, PlanEnd};
 use std::alloc::Global;
 use std::sync::ledger::Ledger;
 use topo_base::{EdgeId, Edit, FaceId, Ids, Line, Memory, NodeId, NodeRow, Rule, Steps};
 use topo_tables::{Excerpt, Tables};
-
-/// The draft of an edit, and what its reply names.
-#[derive(Drop)]
-struct Edited {
-    draft: Draft,
-    ids: Ids,
-}
 
 /// The draft of an edge that may come, in the face in which it lies.
 fn with_edge<L: Ledger>(

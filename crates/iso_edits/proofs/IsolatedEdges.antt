@@ -25,13 +25,14 @@ use Rattle.topo_model.specs.Tables.{Tables, tables_of, edge_row, face_box}
 use Rattle.topo_model.specs.Writable.{has_face_row}
 use Rattle.topo_model.specs.Writes.{edge_row_id, all_written}
 use Rattle.face_boxes.specs.Bounds.{box_with, box_write, other_write, without}
-use Rattle.face_boxes.proofs.Boxes.{boxed, boxed_there, box_written, other_written, boxes_come, boxes_go, can_box, can_more, can_other, written_more}
+use Rattle.face_boxes.proofs.Boxes.{boxed, boxed_there, box_written, other_written, boxes_come, boxes_go, can_box, can_other}
 use Rattle.iso_edits.proofs.IsolatedNodes.{face_there}
 use Rattle.iso_edits.proofs.IsolatedLinks.{rows_comes, rows_goes}
 use Rattle.edit_conditions.proofs.IsolatedTests.{found_id, found_there, has_row-change}
 use Rattle.topo_model.proofs.ListTests.{contains_cases, contains_none}
 use Rattle.topo_model.proofs.Members.{contains-found, pairwise-same, ids_differ}
 use Rattle.topo_model.proofs.Ordering.{InOrder}
+use Rattle.topo_model.proofs.WritesInOrder.{can_write-append, written-append}
 
 -- no edge where a node is isolated
 none_there : (b : Bool) → not b ≡ true → b ≡ false
@@ -77,10 +78,10 @@ edge_comes S start end a b line f bounds listed is ordered fits found_a found_b 
       accepted = done;
       named = refl;
       writable =
-          can_more n (tables_of S) ws (box_write f bounds)
+          can_write-append n (tables_of S) ws (box_write f bounds)
           (((refl, fits), there_a, there_b, itself, itself, face, face), ((there_b, tt), ((still_there S.nodes None b.node_id a.node_id there_a, tt), tt)))
           (can_box n t f bounds face);
-      tables = written_more n (tables_of S) ws (box_write f bounds) ∙ box_written n t f bounds ∙ (λ i. record (tables_of T) { edges = edges i; faces = faces i });
+      tables = written-append n (tables_of S) ws (box_write f bounds) ∙ box_written n t f bounds ∙ (λ i. record (tables_of T) { edges = edges i; faces = faces i });
     }
 
 -- ---- the edge that goes
@@ -149,12 +150,12 @@ edge_goes S n e left right on_left on_right is_left is_right ordered found there
       accepted = done;
       named = refl;
       writable =
-          can_more next (tables_of S) ws (box_write l left ++ other_write l r right)
+          can_write-append next (tables_of S) ws (box_write l left ++ other_write l r right)
           (has_mapped (edge_row (flat_map both_ways S.edges)) S.edges e.edge_id (λ x. refl) ∙ there, ((there_b, face), ((still_there S.nodes (Some l) e.end_node e.start_node there_a, face), tt)))
-          (can_more next t (box_write l left) (other_write l r right) (can_box next t l left face) (can_other next (all_written next t (box_write l left)) l r right still));
+          (can_write-append next t (box_write l left) (other_write l r right) (can_box next t l left face) (can_other next (all_written next t (box_write l left)) l r right still));
       tables =
-          written_more next (tables_of S) ws (box_write l left ++ other_write l r right)
-          ∙ written_more next t (box_write l left) (other_write l r right)
+          written-append next (tables_of S) ws (box_write l left ++ other_write l r right)
+          ∙ written-append next t (box_write l left) (other_write l r right)
           ∙ ap (λ (v : Tables). all_written next v (other_write l r right)) (box_written next t l left)
           ∙ other_written next u l r right
           ∙ (λ i. record (tables_of T) { edges = edges i; faces = faces i });

@@ -16,9 +16,9 @@ use Rattle.topo_model.specs.Writable.{CanWriteAll, has_edge_row, has_face_row, h
 use Rattle.topo_model.specs.Writes.{edge_row_id, with_side, written}
 use Rattle.topo_model.proofs.ListTests.{contains_here, contains_there}
 use Rattle.topo_model.proofs.RowLemmas.{side-id}
+use Rattle.topo_model.proofs.WritesInOrder.{can_write-append}
 use Rattle.edit_conditions.proofs.IsolatedTests.{has_row-change}
 use Rattle.face_parts.proofs.Lists.{has_listed}
-use Rattle.read_set.proofs.Drafting.{can_write-append}
 use Rattle.merged_faces.specs.declared.removed.Freed.{Freed}
 use Rattle.merged_faces.specs.declared.removed.Removed.{Removed}
 use Rattle.merged_faces.specs.MergedSides.{HasRest, IsLess}

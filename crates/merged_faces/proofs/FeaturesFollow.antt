@@ -3,8 +3,8 @@ use Rattle.std.proofs.Common.{◌≡◌, ℕ, List, [], ◌∷◌, ◌++◌, app
 use Rattle.topo_base.specs.declared.rows.RelationRow.{RelationRow}
 use Rattle.topo_model.specs.Relations.{face_type}
 use Rattle.topo_model.specs.Tables.{Tables, drawn}
-use Rattle.merged_faces.specs.KnownRows.{KnowsRows}
-use Rattle.merged_faces.proofs.MergedInto.{follow_none, follow_onward, knows_followed}
+use Rattle.relation_rows.specs.KnownRows.{KnowsRows}
+use Rattle.relation_rows.proofs.MergedInto.{follow_none, follow_onward, knows_followed}
 use Rattle.merged_faces.specs.Merging.{one_by_one, with_relations}
 
 pub knows_after : (t : Tables) (gone : List ℕ) (kept : ℕ) → KnowsRows t → KnowsRows (with_relations t gone kept)

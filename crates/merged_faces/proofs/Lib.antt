@@ -6,4 +6,3 @@ pub mod Allowing
 pub mod MergedBoxes
 pub mod Stages
 pub mod Outcomes
-pub mod MergedInto

@@ -19,8 +19,9 @@ use Rattle.topo_model.specs.Writes.{all_written, face_row_id}
 use Rattle.topo_model.proofs.ListTests.{contains_here, contains_there}
 use Rattle.topo_model.proofs.Members.{ids_differ, ids_within, pairwise-same}
 use Rattle.topo_model.proofs.Ordering.{InOrder, first_of}
+use Rattle.topo_model.proofs.WritesInOrder.{can_write-append, written-append}
 use Rattle.face_boxes.specs.Bounds.{box_write}
-use Rattle.face_boxes.proofs.Boxes.{AreRows, beside_less, boxed, boxed_is, boxed_there, box_written, can_box, can_more, chosen, chosen_rows, points_of, written_more}
+use Rattle.face_boxes.proofs.Boxes.{AreRows, beside_less, boxed, boxed_is, boxed_there, box_written, can_box, chosen, chosen_rows, points_of}
 use Rattle.face_boxes.proofs.DividedBoxes.{line_of, lines_beside, new_row, with_new}
 use Rattle.merged_faces.specs.Last.{drop_face}
 use Rattle.merged_faces.specs.Merge.{KeepsRows, MayGo, stay}
@@ -165,7 +166,7 @@ stay_same row become gone (g ∷ gs) same = by (is_among g gone) refl (stay_same
 pub rows_written : (n : Counters) (t : Tables) (U : Drawing) (old : ℕ → FaceRow) (gone fs : List ℕ) (kept : ℕ) (bounds : Option Box4) → KeepsRows old U gone kept → bounds ≡ face_box U kept → t.faces ≡ map old fs
     → all_written n t (box_write kept bounds ++ map drop_face gone) ≡ record t { faces = map (face_row U) (stay gone fs) }
 rows_written n t U old gone fs kept bounds keeps is begun =
-    written_more n t (box_write kept bounds) (map drop_face gone)
+    written-append n t (box_write kept bounds) (map drop_face gone)
     ∙ ap (λ (u : Tables). all_written n u (map drop_face gone)) (box_written n t kept bounds)
     ∙ drops_written n (record t { faces = boxed kept bounds t.faces }) gone
     ∙ ap (λ (rows : List FaceRow). record t { faces = rows }) rows
@@ -222,7 +223,7 @@ go_boxed rows kept bounds (f ∷ gone) may = (boxed_there rows kept f bounds ∙
 
 pub rows_can : (n : Counters) (t : Tables) (gone : List ℕ) (kept : ℕ) (bounds : Option Box4) → IsTrue (has_face_row t kept) → MayGo t.faces gone → CanWriteAll n t (box_write kept bounds ++ map drop_face gone)
 rows_can n t gone kept bounds there may =
-    can_more n t (box_write kept bounds) (map drop_face gone) (can_box n t kept bounds there)
+    can_write-append n t (box_write kept bounds) (map drop_face gone) (can_box n t kept bounds there)
     (subst (λ (u : Tables). CanWriteAll n u (map drop_face gone)) (sym (box_written n t kept bounds))
     (can_drop n (record t { faces = boxed kept bounds t.faces }) gone (go_boxed t.faces kept bounds gone may)))
 

@@ -16,8 +16,9 @@ use Rattle.topo_model.specs.Tables.{Tables, drawn, edge_row, tables_of}
 use Rattle.topo_model.specs.Writes.{all_written, edge_row_id, with_side}
 use Rattle.topo_model.proofs.Ordering.{InOrder, InOrder-filter}
 use Rattle.topo_model.proofs.TableLemmas.{drawn-tables_of}
+use Rattle.topo_model.proofs.WritesInOrder.{written-append}
 use Rattle.face_parts.proofs.RowSides.{row_sides}
-use Rattle.face_parts.proofs.SideWrites.{AreBelow, written-append}
+use Rattle.face_parts.proofs.SideWrites.{AreBelow}
 use Rattle.merged_faces.specs.declared.removed.Freed.{Freed}
 use Rattle.merged_faces.specs.declared.removed.Removed.{Removed}
 use Rattle.merged_faces.specs.MergedSides.{HasRest, IsLess, lessened, renamed_edges, with_renamed}

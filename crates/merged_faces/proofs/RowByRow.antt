@@ -8,7 +8,8 @@ use Rattle.topo_model.specs.Rows.{with_change}
 use Rattle.topo_model.specs.Tables.{Tables}
 use Rattle.topo_model.specs.Writes.{all_written}
 use Rattle.topo_model.proofs.Ordering.{InOrder, first_of}
-use Rattle.face_parts.proofs.SideWrites.{AreBelow, written-append}
+use Rattle.topo_model.proofs.WritesInOrder.{written-append}
+use Rattle.face_parts.proofs.SideWrites.{AreBelow}
 
 below_wider : {R : Type 0} (id : R → ℕ) (n m : ℕ) (rows : List R) → n ≤ m → AreBelow id n rows → AreBelow id m rows
 below_wider id n m [] more h = tt

@@ -9,8 +9,8 @@ use Rattle.topo_model.specs.Tables.{Tables, drawn, face_box, has_side, least_box
 use Rattle.topo_model.specs.Writable.{has_face_row}
 use Rattle.topo_model.specs.Writes.{all_written}
 use Rattle.topo_model.proofs.TableLemmas.{drawn-tables_of}
-use Rattle.merged_faces.specs.KnownRows.{KnowsRows}
-use Rattle.merged_faces.proofs.MergedInto.{knows_rows}
+use Rattle.relation_rows.specs.KnownRows.{KnowsRows}
+use Rattle.relation_rows.proofs.MergedInto.{knows_rows}
 use Rattle.merged_faces.specs.declared.removed.Removed.{Removed}
 use Rattle.merged_faces.specs.Last.{last_writes}
 use Rattle.merged_faces.specs.Merge.{IsMerge, MayGo, begun, merged_in}

@@ -3,4 +3,3 @@ pub mod MergedSides
 pub mod Last
 pub mod Merge
 pub mod Merging
-pub mod KnownRows

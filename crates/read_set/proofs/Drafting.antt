@@ -13,16 +13,8 @@ use Rattle.topo_model.specs.Rows.{with_change, without_row}
 use Rattle.topo_model.specs.Tables.{Tables, tables_of}
 use Rattle.topo_model.specs.Writable.{CanWrite, CanWriteAll, IsThere, IsThereIfAny, IsOld, IsOldIfAny, IsNext}
 use Rattle.topo_model.specs.Writes.{written, all_written, id_number, dart_named, element_number, row_named, with_node_row, with_next, with_side, edge_row_id, face_row_id}
+use Rattle.topo_model.proofs.WritesInOrder.{can_write-append, written-append}
 use Rattle.read_set.specs.Drafted.{Drafted, IsDraftOf}
-
--- some writes, and then others
-pub written-append : (n : Counters) (t : Tables) (ws vs : List RowWrite) → all_written n t (ws ++ vs) ≡ all_written n (all_written n t ws) vs
-written-append n t [] vs = refl
-written-append n t (w ∷ ws) vs = written-append n (written n t w) ws vs
-
-pub can_write-append : (n : Counters) (t : Tables) (ws vs : List RowWrite) → CanWriteAll n t ws → CanWriteAll n (all_written n t ws) vs → CanWriteAll n t (ws ++ vs)
-can_write-append n t [] vs can more = more
-can_write-append n t (w ∷ ws) vs can more = (can.0, can_write-append n (written n t w) ws vs can.1 more)
 
 -- ids are old, so it is no matter which ids were next before the edit
 old_number : (a b : ℕ) (id : RowId) → IsOld id → id_number a id ≡ id_number b id

@@ -2,3 +2,4 @@ pub mod Plans
 pub mod Planned
 pub mod Answered
 pub mod Drafted
+pub mod Edited

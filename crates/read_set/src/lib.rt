@@ -7,9 +7,11 @@
 
 mod copies;
 mod draft;
+mod edited;
 mod end;
 mod plan;
 
 pub use draft::Draft;
+pub use edited::Edited;
 pub use end::PlanEnd;
 pub use plan::Plan;

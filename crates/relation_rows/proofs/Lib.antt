@@ -1,8 +1,10 @@
 pub mod Allowing
 pub mod KnownFeatures
+pub mod MergedInto
 pub mod Merging
 pub mod Order
 pub mod Putting
 pub mod Replacing
 pub mod SameFeatures
+pub mod SameNumbers
 pub mod Writing

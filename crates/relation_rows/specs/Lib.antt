@@ -1,2 +1,4 @@
 pub mod Elements
+pub mod Features
 pub mod Following
+pub mod KnownRows

@@ -10,12 +10,14 @@ mod features;
 mod listing;
 mod merge;
 mod same;
+mod sharing;
 mod split;
 #[cfg(test)]
 mod tests;
 
 pub use features::FeatureList;
-pub use listing::listing_of;
+pub use listing::{is_hierarchical, listing_of, lists_element};
 pub use merge::follow_merge;
 pub use same::same_features;
+pub use sharing::have_same_features;
 pub use split::follow_split;

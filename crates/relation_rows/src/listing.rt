@@ -13,8 +13,8 @@ use std::sync::ledger::Ledger;
 use topo_base::{Element, FeatureRow, LayerId, Memory, RelationRow, Steps};
 use topo_tables::Tables;
 
-/// Whether the layer is there and has a child.
-fn is_hierarchical<L: Ledger>(tables: &Tables, layer: LayerId, steps: &mut Steps<L>) -> bool
+/// Whether the layer is there and has a child: its rows list features, and else nodes, edges or faces.
+pub fn is_hierarchical<L: Ledger>(tables: &Tables, layer: LayerId, steps: &mut Steps<L>) -> bool
     ensures test { result ≡ is_hierarchical (drawn tables.now.rows) layer }
     ensures counted { steps.new ≡ steps.old + 1 }
 {
@@ -25,7 +25,7 @@ fn is_hierarchical<L: Ledger>(tables: &Tables, layer: LayerId, steps: &mut Steps
 }
 
 /// Whether the row lists the element of this type.
-fn lists_element<L: Ledger>(
+pub fn lists_element<L: Ledger>(
     tables: &Tables,
     element_type: u32,
     id: u32,

@@ -3,6 +3,7 @@ use Rattle.std.proofs.Common.{◌≡◌, ℕ, zero, suc, ◌<◌, ◌≤◌, ref
 use Rattle.std.specs.Prelude.{fold}
 use Rattle.std.specs.List.{Contains}
 use Rattle.std.proofs.lemmas.Bool.{false≢true, cases_lt}
+use Rattle.topo_base.specs.Darts.{same_dart}
 use Rattle.topo_base.specs.declared.ids.Dart.{Dart}
 use Rattle.topo_model.specs.Drawing.{Drawing}
 use Rattle.topo_model.specs.HalfEdge.{HalfEdge, half_edges, same_half_edge, comes_before, dart_of}
@@ -12,7 +13,7 @@ use Rattle.topo_model.specs.Star.{next_of}
 use Rattle.topo_model.proofs.ListTests.{contains_here, contains_there, contains_cases, contains_none, Decides-any}
 use Rattle.topo_model.proofs.Members.{contains-map, contains-mapped}
 use Rattle.face_rings.specs.declared.content.BorderDart.{BorderDart}
-use Rattle.face_rings.specs.Border.{same_dart, has_dart, next_dart}
+use Rattle.face_rings.specs.Border.{has_dart, next_dart}
 use Rattle.face_rings.specs.Rings.{ring_of as ring_of_dart}
 use Rattle.face_rings.specs.FaceBorder.{beside, border_dart, face_border, HasRings}
 use Rattle.face_rings.proofs.FaceBorders.{has_plain_lines, half_by_dart, in_beside, from_beside, has_half, border_linked, ring_is}

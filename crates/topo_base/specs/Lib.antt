@@ -1,3 +1,4 @@
+pub mod Darts
 pub mod Kinds
 pub mod Names
 pub mod Point

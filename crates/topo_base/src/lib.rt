@@ -30,7 +30,7 @@ pub use answer::Answer;
 pub use edit::{Edit, Entry, Pair, PairList};
 pub use element::{Element, Ids};
 pub use grid::Grid;
-pub use ids::{Dart, EdgeId, FaceId, FeatureId, LayerId, NodeId};
+pub use ids::{Dart, EdgeId, FaceId, FeatureId, LayerId, NodeId, is_same_dart};
 pub use kind::Kind;
 pub use limits::Limits;
 pub use line::Line;

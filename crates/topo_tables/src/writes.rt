@@ -38,6 +38,16 @@ impl Writes {
         Ok(())
     }
 
+    /// Puts writes behind the others, in their order.
+    pub fn append(&mut self, more: Writes) -> Result<(), Memory>
+        ensures { OnOk result (self.new ≡ self.old ++ more) }
+    {
+        for one in more.into_vec() {
+            self.push(one)?;
+        }
+        Ok(())
+    }
+
     /// The writes in order.
     pub fn as_slice(&self) -> &[RowWrite]
         ensures { result.now ≡ self.now }

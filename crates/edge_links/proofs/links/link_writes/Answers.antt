@@ -1,4 +1,4 @@
-use Rattle.edge_links.specs.Links.{same_dart}
+use Rattle.topo_base.specs.Darts.{same_dart}
 use Rattle.edge_links.proofs.Places.{place_within}
 use Rattle.edge_links.proofs.links.link_writes.Goals as goal
 

@@ -1,5 +1,5 @@
 use Rattle.std.proofs.Common.{sym, ◌∙◌}
-use Rattle.edge_links.specs.Links.{same_dart}
+use Rattle.topo_base.specs.Darts.{same_dart}
 use Rattle.edge_links.proofs.Places.{first_at, none_at_all}
 use Rattle.edge_links.proofs.links.place_of.Goals as goal
 

@@ -1,5 +1,5 @@
 use Rattle.std.proofs.Common.{◌≡◌, ℕ, ◌<◌, false, get_or}
-use Rattle.edge_links.specs.Links.{same_dart}
+use Rattle.topo_base.specs.Darts.{same_dart}
 use Rattle.edge_links.proofs.links.place_of.Given as goal
 
 -- none of those before this index is the dart

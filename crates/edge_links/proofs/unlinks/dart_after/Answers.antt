@@ -1,5 +1,5 @@
 use Rattle.std.proofs.Common.{refl}
-use Rattle.edge_links.specs.Links.{same_dart}
+use Rattle.topo_base.specs.Darts.{same_dart}
 use Rattle.edge_links.proofs.Places.{place_within}
 use Rattle.edge_links.proofs.unlinks.dart_after.Goals as goal
 

@@ -4,7 +4,7 @@ use Rattle.topo_model.specs.AddEdge.{add_edge}
 use Rattle.topo_model.specs.Drawing.{node_at}
 use Rattle.topo_model.specs.PlainLaw.{IsPlainInOrder}
 use Rattle.topo_model.specs.Tables.{Tables, drawn}
-use Rattle.face_split.specs.Answers.{IsPlaced}
+use Rattle.face_split.specs.Placing.{IsPlaced}
 use Rattle.face_split.specs.Closing.{with_edge_in}
 use Rattle.face_split.proofs.Placed.{accepted_where, found_row, placed_where}
 use Rattle.face_split.proofs.planning.add_edge.Goals as goal

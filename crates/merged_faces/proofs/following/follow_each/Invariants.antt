@@ -1,7 +1,7 @@
 use Rattle.std.proofs.Common.{◌≡◌, drop}
 use Rattle.topo_model.specs.Drawing.{Drawing}
 use Rattle.read_set.specs.Drafted.{IsDraftOf}
-use Rattle.merged_faces.specs.KnownRows.{KnowsRows}
+use Rattle.relation_rows.specs.KnownRows.{KnowsRows}
 use Rattle.merged_faces.specs.Merging.{one_by_one}
 use Rattle.merged_faces.proofs.following.follow_each.Given as goal
 

@@ -4,8 +4,8 @@ use Rattle.topo_model.specs.Content.{listing}
 use Rattle.topo_model.specs.Relations.{face_type, lists_element}
 use Rattle.topo_model.specs.Tables.{Tables, drawn}
 use Rattle.read_set.specs.Drafted.{Drafted}
-use Rattle.merged_faces.specs.KnownRows.{KnowsRows}
-use Rattle.merged_faces.proofs.MergedInto.{rows_features}
+use Rattle.relation_rows.specs.KnownRows.{KnowsRows}
+use Rattle.relation_rows.proofs.MergedInto.{rows_features}
 use Rattle.merged_faces.specs.Merging.{with_relations}
 use Rattle.merged_faces.proofs.FeaturesFollow.{knows_after}
 use Rattle.merged_faces.proofs.following.follow_one.Goals as goal

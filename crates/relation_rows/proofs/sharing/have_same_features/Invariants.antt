@@ -1,8 +1,8 @@
 use Rattle.std.proofs.Common.{length, ◌-◌, ◌≡◌, ◌≤◌, drop}
 use Rattle.topo_model.specs.RemoveEdge.{have_same_features, same_numbers}
 use Rattle.topo_model.specs.Tables.{drawn}
-use Rattle.face_merge.specs.Features.{features_in}
-use Rattle.face_merge.proofs.features.have_same_features.Given as goal
+use Rattle.relation_rows.specs.Features.{features_in}
+use Rattle.relation_rows.proofs.sharing.have_same_features.Given as goal
 
 -- the features from these places on are the same where all of them are
 abbrev pub invariant-loop-rows : goal.invariant-loop-rows

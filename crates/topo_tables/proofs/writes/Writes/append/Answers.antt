@@ -1,7 +1,7 @@
 use Rattle.std.proofs.Common.{rules, ◌≡◌, List, [], ◌∷◌, ◌++◌, append_assoc, sym, ap, ◌∙◌}
 use Rattle.std.specs.Vec.Iter.{into_iter_items}
 use Rattle.topo_base.specs.declared.write.RowWrite.{RowWrite}
-use Rattle.face_merge.proofs.removing.append.Goals as goal
+use Rattle.topo_tables.proofs.writes.Writes.append.Goals as goal
 
 pub loop-one-preserved : goal.loop-one-preserved
 loop-one-preserved c =
@@ -10,6 +10,6 @@ loop-one-preserved c =
     let items : into_iter_items c.loop-one.one-iterator ≡ one ∷ left = search rules in
     record {
       iterator = (tt, tt);
-      behind = ap (λ (ws : List RowWrite). ws ++ left) c.in_ok-push.ensures.ok ∙ append_assoc c.loop-one.writes (one ∷ []) left
-          ∙ ap (λ (ws : List RowWrite). c.loop-one.writes ++ ws) (sym items) ∙ c.loop-one.invariant.behind;
+      behind = ap (λ (ws : List RowWrite). ws ++ left) c.in_ok-push.ensures.ok ∙ append_assoc c.loop-one.self (one ∷ []) left
+          ∙ ap (λ (ws : List RowWrite). c.loop-one.self ++ ws) (sym items) ∙ c.loop-one.invariant.behind;
     }

@@ -14,7 +14,7 @@ use Rattle.topo_model.specs.Subdivision.{is_row_known, references_known, rows_as
 use Rattle.topo_model.specs.Tables.{Tables, drawn}
 use Rattle.topo_model.specs.Writable.{has_feature_row, has_layer_row}
 use Rattle.relation_rows.specs.Following.{AreFeaturesOf, feature_of, has_layer_of, is_known}
-use Rattle.merged_faces.specs.KnownRows.{EachRow, HasLayer, KnowsRows}
+use Rattle.relation_rows.specs.KnownRows.{EachRow, HasLayer, KnowsRows}
 use Rattle.relation_rows.proofs.KnownFeatures.{known_row, layer_in, references_parts}
 use Rattle.relation_rows.proofs.Order.{same_element, same_itself, same_topogeo, same_type}
 use Rattle.relation_rows.proofs.Putting.{Stand, stand, put_before, put_at, put_after, put_first, commutes, Ascend, ascend_of, ascend_put}
@@ -44,7 +44,7 @@ each_of P p [] means h = tt
 each_of P p (r ∷ rows) means h = let parts = and_parts (p r) (list_all p rows) h in (means r parts.0, each_of P p rows means parts.1)
 
 -- ---- each row has the layer of its feature, so that rows of one key are one
-one_row : (layer : ℕ → ℕ) (a b : RelationRow) → HasLayer layer a → HasLayer layer b → same_row a b ≡ true → a ≡ b
+pub one_row : (layer : ℕ → ℕ) (a b : RelationRow) → HasLayer layer a → HasLayer layer b → same_row a b ≡ true → a ≡ b
 one_row layer a b h k same =
     let topogeo = same_topogeo a b same in
     let element = same_element a b same in
@@ -58,7 +58,7 @@ put_twice_at a b rows ih (Before q) = ap (insert_row a) (put_before a b rows q) 
 put_twice_at a b rows ih (Same q) = ap (insert_row a) (put_at a b rows q)
 put_twice_at a b rows ih (After q) = ap (insert_row a) (put_after a b rows q) ∙ put_after a b (insert_row a rows) q ∙ ap (λ rs. b ∷ rs) ih ∙ sym (put_after a b rows q)
 
-put_twice : (a : RelationRow) (rows : List RelationRow) → insert_row a (insert_row a rows) ≡ insert_row a rows
+pub put_twice : (a : RelationRow) (rows : List RelationRow) → insert_row a (insert_row a rows) ≡ insert_row a rows
 put_twice a [] = put_at a a [] (same_itself a)
 put_twice a (b ∷ rows) = put_twice_at a b rows (put_twice a rows) (stand a b)
 

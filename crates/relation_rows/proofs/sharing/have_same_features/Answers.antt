@@ -1,6 +1,6 @@
 use Rattle.std.proofs.Common.{sym, ◌∙◌}
-use Rattle.face_merge.proofs.SameNumbers.{below, first_ended, second_ended}
-use Rattle.face_merge.proofs.features.have_same_features.Goals as goal
+use Rattle.relation_rows.proofs.SameNumbers.{below, first_ended, second_ended}
+use Rattle.relation_rows.proofs.sharing.have_same_features.Goals as goal
 
 pub returns-then-here-rows : goal.returns-then-here-rows
 returns-then-here-rows g c =

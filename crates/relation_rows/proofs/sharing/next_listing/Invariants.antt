@@ -1,7 +1,7 @@
 use Rattle.std.proofs.Common.{length, ◌-◌, ◌≡◌, ◌≤◌, drop}
 use Rattle.topo_model.specs.Tables.{drawn}
-use Rattle.face_merge.specs.Features.{features_in}
-use Rattle.face_merge.proofs.features.next_listing.Given as goal
+use Rattle.relation_rows.specs.Features.{features_in}
+use Rattle.relation_rows.proofs.sharing.next_listing.Given as goal
 
 -- no row before this place lists the element
 abbrev pub invariant-loop-at : goal.invariant-loop-at

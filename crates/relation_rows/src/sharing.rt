@@ -2,39 +2,14 @@
 ghost use Rattle.std.specs.Prelude.{◌≡◌, ◌≤◌, ◌<◌, ◌+◌, ◌==◌, ◌∷◌, [], drop, length};
 ghost use Rattle.std.specs.List.{slice_index_or};
 ghost use Rattle.topo_base.specs.declared.rows.RelationRow.{RelationRow as RelationValue};
-ghost use Rattle.topo_model.specs.Relations.{is_hierarchical, lists_element};
 ghost use Rattle.topo_model.specs.RemoveEdge.{have_same_features};
 ghost use Rattle.topo_model.specs.Tables.{drawn};
-ghost use Rattle.face_merge.specs.Features.{feature_id, features_in};
+ghost use Rattle.relation_rows.specs.Features.{feature_id, features_in};
 
+use crate::listing::lists_element;
 use std::sync::ledger::Ledger;
-use topo_base::{LayerId, RelationRow, Steps};
+use topo_base::{RelationRow, Steps};
 use topo_tables::Tables;
-
-/// Whether the layer is there and has a child.
-fn is_hierarchical<L: Ledger>(tables: &Tables, layer: LayerId, steps: &mut Steps<L>) -> bool
-    ensures { result ≡ is_hierarchical (drawn tables.now.rows) layer }
-{
-    match tables.layer(layer, steps) {
-        None => false,
-        Some(row) => row.child_id.is_some(),
-    }
-}
-
-/// Whether the row lists the element of this type.
-fn lists_element<L: Ledger>(
-    tables: &Tables,
-    element_type: u32,
-    id: u32,
-    row: &RelationRow,
-    steps: &mut Steps<L>,
-) -> bool
-    ensures { result ≡ lists_element (drawn tables.now.rows) element_type id row.now }
-{
-    row.element_type == element_type
-        && row.element_id == id
-        && !is_hierarchical(tables, row.layer_id, steps)
-}
 
 /// The first of the rows, from a place on, that lists the element, or their number.
 fn next_listing<L: Ledger>(
