@@ -1,0 +1,5 @@
+pub mod Levels
+pub mod Found
+pub mod Members
+pub mod Descents
+pub mod Listing

@@ -1,0 +1,6 @@
+use Rattle.topo_model.specs.Places.{rows_of}
+use Rattle.edit_conditions.proofs.RowTests.{all_fit}
+use Rattle.layer_tree.proofs.layers.is_name_taken.Goals as goal
+
+pub any_row-requires : goal.any_row-requires
+any_row-requires g c = all_fit (rows_of c.layers.result.now)

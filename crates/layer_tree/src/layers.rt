@@ -1,0 +1,142 @@
+// Layers that come.
+ghost use Rattle.std.specs.Prelude.{◌≡◌, ◌+◌, ◌<◌, ◌≤◌, ◌^◌, IfOk, IsTrue, Some, length, option_map, true};
+ghost use Rattle.std.specs.Str.{bytes_eq};
+ghost use Rattle.topo_base.specs.Kinds.{kind_number};
+ghost use Rattle.topo_model.specs.Drawing.{layer_at};
+ghost use Rattle.topo_model.specs.Layers.{add_layer as added_layer, is_name_taken as is_taken, layer_on as layer_above, same_kind, with_layer};
+ghost use Rattle.topo_model.specs.Tables.{drawn};
+ghost use Rattle.topo_model.specs.Writable.{has_layer_row};
+ghost use Rattle.layer_tree.specs.Answers.{AnswersOutcome, Follows, IsThereIfGiven};
+ghost use Rattle.layer_tree.specs.Ready.{IsReady};
+
+use crate::edited::{Edited, edited_by};
+use edit_conditions::{RowTest, any_row};
+use read_set::PlanEnd;
+use std::alloc::Global;
+use std::sync::ledger::Ledger;
+use topo_base::{Element, Kind, LayerId, LayerRow, Memory, Name, RowId, RowWrite, Rule, Steps};
+use topo_tables::{Excerpt, Tables};
+
+/// The layer has this name.
+#[derive(Drop)]
+struct HasName<'a> {
+    name: &'a Name,
+}
+
+impl RowTest<LayerRow> for HasName<'_> {
+    ghost fits = { λ t l. true };
+
+    ghost holds = { λ t l. bytes_eq l.name t.name.now };
+
+    ghost most_steps = { λ t l. 1 };
+
+    fn holds<L: Ledger>(&self, row: &LayerRow, steps: &mut Steps<L>) -> bool {
+        steps.tick();
+        row.name.as_bytes() == self.name.as_bytes()
+    }
+}
+
+/// Whether a layer has this name.
+fn is_name_taken<L: Ledger>(tables: &Tables, name: &Name, steps: &mut Steps<L>) -> bool
+    ensures { result ≡ is_taken (drawn tables.now.rows) name.now }
+{
+    any_row(tables.layers(), &HasName { name }, steps)
+}
+
+/// Whether two layers have one type.
+fn is_same_kind(first: Kind, second: Kind) -> bool
+    ensures { result ≡ same_kind first second }
+{
+    first.number() == second.number()
+}
+
+/// The id in a row write of a layer that is there.
+fn old_id(child: Option<LayerId>) -> Option<RowId>
+    ensures { result ≡ option_map RowId.Old child }
+{
+    match child {
+        None => None,
+        Some(child) => Some(RowId::Old(child.0)),
+    }
+}
+
+/// A layer comes, with this level, upon this child.
+fn with_level(
+    alloc: Global,
+    tables: &Tables,
+    name: &Name,
+    kind: Kind,
+    child: Option<LayerId>,
+    level: u32,
+) -> Result<Edited, Memory>
+    requires ready { IsReady (drawn tables.now.rows) }
+    requires there { IsThereIfGiven (has_layer_row tables.now.rows) child }
+    ensures { IfOk result (λ d. Follows (drawn tables.now.rows) (with_layer (drawn tables.now.rows) name.now kind child level) d) }
+{
+    let layer = tables.counters().layer;
+    let one = RowWrite::AddLayer {
+        layer: RowId::Old(layer),
+        level,
+        child: old_id(child),
+        kind,
+        name: name.copy(alloc)?,
+    };
+    edited_by(alloc, one, Element::Layer(LayerId(layer)))
+}
+
+/// A layer comes upon a child, if that is there and has its type.
+fn on_child<L: Ledger>(
+    alloc: Global,
+    excerpt: &Excerpt,
+    name: &Name,
+    kind: Kind,
+    child: LayerId,
+    steps: &mut Steps<L>,
+) -> Result<Edited, PlanEnd>
+    requires ready { IsReady (drawn excerpt.now.rows) }
+    ensures { AnswersOutcome (drawn excerpt.now.rows) excerpt.now.front
+        (layer_above (drawn excerpt.now.rows) name.now kind (layer_at (drawn excerpt.now.rows) child)) result }
+{
+    let front = excerpt.front();
+    let tables = excerpt.tables();
+    let Some(row) = tables.layer(child, steps) else {
+        return Err(PlanEnd::Refused {
+            rule: Rule::NoLayer,
+            front,
+        });
+    };
+    if !is_same_kind(row.feature_type, kind) {
+        return Err(PlanEnd::Refused {
+            rule: Rule::WrongKind,
+            front,
+        });
+    }
+    let level = row.level + 1;
+    Ok(with_level(alloc, tables, name, kind, Some(row.layer_id), level)?)
+}
+
+/// A layer comes, by the rules of AddTopoGeometryColumn: NameTaken; and with a child NoLayer, WrongKind.
+pub fn add_layer<L: Ledger>(
+    alloc: Global,
+    excerpt: &Excerpt,
+    name: &Name,
+    kind: Kind,
+    child: Option<LayerId>,
+    steps: &mut Steps<L>,
+) -> Result<Edited, PlanEnd>
+    requires ready { IsReady (drawn excerpt.now.rows) }
+    ensures { AnswersOutcome (drawn excerpt.now.rows) excerpt.now.front (added_layer (drawn excerpt.now.rows) name.now kind child) result }
+{
+    let front = excerpt.front();
+    let tables = excerpt.tables();
+    if is_name_taken(tables, name, steps) {
+        return Err(PlanEnd::Refused {
+            rule: Rule::NameTaken,
+            front,
+        });
+    }
+    match child {
+        None => Ok(with_level(alloc, tables, name, kind, None, 0)?),
+        Some(child) => on_child(alloc, excerpt, name, kind, child, steps),
+    }
+}
