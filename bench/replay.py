@@ -4,8 +4,8 @@
 It reads a good script from standard input and prints the replies and the final tables. Between two edits it keeps
 the drawing alone: nodes with their containing faces, edges with their ends, sides and lines, the faces and the next
 ids. Links, rings, shells, parities and boxes are computed anew from that wherever they are asked for, with exact
-integers. It knows the edits of isolated nodes and edges, addedgemodface, addedgenewfaces, remedgemodface and
-remedgenewface. It models neither features nor faults: a line that spells none of these edits ends it with an error.
+integers. It knows all eighteen edits. It models no faults: a line that spells no edit ends it with an error.
+With --features it prints the features with the elements to which they descend, in place of the tables.
 """
 import sys
 from collections import namedtuple
@@ -15,6 +15,10 @@ Node = namedtuple("Node", "face point")  # face is None where the node has an ed
 Edge = namedtuple("Edge", "start end left right line")  # a line is a tuple of points (x, y)
 HalfEdge = namedtuple("HalfEdge", "edge forward start end left right line")
 Division = namedtuple("Division", "left_ring right_ring left_part right_part")
+Layer = namedtuple("Layer", "level child kind name")  # child is None for a primitive layer
+Row = namedtuple("Row", "feature type element")  # a relation row: the feature lists the element of this type
+NODE, EDGE, FACE = 1, 2, 3
+KINDS = {"puntal": NODE, "lineal": EDGE, "areal": FACE}
 UP = (0, 1)
 
 
@@ -23,11 +27,12 @@ class Refused(Exception):
 
 
 class Drawing:
-    """Nodes and edges by id, ascending; the faces, ascending; the next ids."""
+    """Nodes, edges, layers and the layers of features by id, ascending; the faces, ascending; rows; next ids."""
 
     def __init__(self):
-        self.nodes, self.edges, self.faces = {}, {}, [0]
-        self.next_node = self.next_edge = self.next_face = 1
+        self.nodes, self.edges, self.faces, self.layers, self.features = {}, {}, [0], {}, {}
+        self.relations = set()
+        self.next_node = self.next_edge = self.next_face = self.next_layer = self.next_feature = 1
 
 
 # Orientation.antt and Segment.antt; a segment is a pair of points
@@ -285,6 +290,25 @@ def require(condition, rule):
         raise Refused(rule)
 
 
+# Relations.antt
+
+def is_hierarchical(drawing, row):
+    return drawing.layers[drawing.features[row.feature]].child is not None
+
+
+def features_of(drawing, kind, element):
+    """The features that list a node, edge or face."""
+    return {row.feature for row in drawing.relations
+            if (row.type, row.element) == (kind, element) and not is_hierarchical(drawing, row)}
+
+
+def follow(drawing, kind, old, new):
+    """Each feature that lists one of the old elements lists the new ones in their place."""
+    followers = {feature for element in old for feature in features_of(drawing, kind, element)}
+    drawing.relations -= {Row(feature, kind, element) for feature in followers for element in old}
+    drawing.relations |= {Row(feature, kind, element) for feature in followers for element in new}
+
+
 # IsoEdits.antt: each edit changes the drawing and gives the ids of the reply
 
 def add_iso_node(drawing, face, p):
@@ -310,6 +334,7 @@ def move_iso_node(drawing, number, p):
 def remove_iso_node(drawing, number):
     require(number in drawing.nodes, "NoNode")
     require(has_only(drawing, number), "NotIsolated")
+    require(not features_of(drawing, NODE, number), "NodeInFeature")
     del drawing.nodes[number]
     return [("node", number)]
 
@@ -343,6 +368,7 @@ def remove_iso_edge(drawing, number):
     edge = drawing.edges[number]
     require(edge.start != edge.end, "NotIsolated")
     require(all(has_only(drawing, end, number) for end in (edge.start, edge.end)), "NotIsolated")
+    require(not features_of(drawing, EDGE, number), "EdgeInFeature")
     del drawing.edges[number]
     put_node(drawing, edge.start, face=edge.left)
     put_node(drawing, edge.end, face=edge.left)
@@ -401,6 +427,7 @@ def add_edge(both, drawing, a, b, line):
     else:
         parts = (face, new) if face == 0 and not is_shell(left_ring) else (new, face)
     divide(drawing, face, Division(left_ring, right_ring, *parts))
+    follow(drawing, FACE, [face], parts)
     added = sorted(part for part in parts if part >= new)
     drawing.faces += added
     drawing.next_face += len(added)
@@ -411,8 +438,11 @@ def add_edge(both, drawing, a, b, line):
 
 def remove_edge(anew, drawing, number):
     require(number in drawing.edges, "NoEdge")
-    edge = drawing.edges.pop(number)
+    require(not features_of(drawing, EDGE, number), "EdgeInFeature")
+    edge = drawing.edges[number]
     sides = {edge.left, edge.right}
+    require(len({frozenset(features_of(drawing, FACE, side)) for side in sides}) == 1, "FaceInFeature")
+    del drawing.edges[number]
     if len(sides) == 1 or 0 in sides:
         kept = min(sides)
     elif anew:
@@ -422,6 +452,7 @@ def remove_edge(anew, drawing, number):
     else:
         kept = edge.right
     merge(drawing, sides - {kept}, kept)
+    follow(drawing, FACE, sides, [kept])
     for end in (edge.start, edge.end):
         if has_only(drawing, end):
             put_node(drawing, end, face=kept)
@@ -437,6 +468,133 @@ def merge(drawing, gone, kept):
         drawing.edges[e] = edge._replace(left=renamed(edge.left), right=renamed(edge.right))
     for n, node in drawing.nodes.items():
         put_node(drawing, n, face=renamed(node.face))
+
+
+# SplitEdge.antt
+
+def split_edge(anew, drawing, number, p):
+    require(number in drawing.edges, "NoEdge")
+    edge = drawing.edges[number]
+    require(is_inside_line(p, edge.line), "NotOnEdge")
+    node, place = drawing.next_node, next(i for i, s in enumerate(segments_of(edge.line)) if on_segment(p, s))
+    up_to = edge.line[:place + 1] + (p,)
+    onward = (p,) + tuple(q for i, q in enumerate(edge.line) if i > place and not (i == place + 1 and q == p))
+    parts = [drawing.next_edge, drawing.next_edge + 1] if anew else [number, drawing.next_edge]
+    if anew:
+        del drawing.edges[number]
+    drawing.nodes[node] = Node(None, p)
+    drawing.edges[parts[0]] = edge._replace(end=node, line=up_to)
+    drawing.edges[parts[1]] = edge._replace(start=node, line=onward)
+    drawing.next_node, drawing.next_edge = node + 1, parts[1] + 1
+    follow(drawing, EDGE, [number], parts)
+    return [("node", node)] + [("edge", part) for part in (parts if anew else parts[1:])]
+
+
+# HealEdges.antt
+
+def walked_from(node, edge):
+    """The vertices of an edge away from one of its nodes, and the node at the other end."""
+    return (edge.line, edge.end) if edge.start == node else (edge.line[::-1], edge.start)
+
+
+def heal_edges(anew, drawing, first, second):
+    require(first in drawing.edges and second in drawing.edges, "NoEdge")
+    e, f = drawing.edges[first], drawing.edges[second]
+    require(e.start != e.end and f.start != f.end, "ClosedEdge")
+    common = [n for n in (e.end, e.start) if n in (f.start, f.end)]
+    require(first != second and common, "NotJoined")
+    alone = [n for n in common
+             if not any(n in (x.start, x.end) for k, x in drawing.edges.items() if k not in (first, second))]
+    require(alone, "OthersJoined")
+    require(features_of(drawing, EDGE, first) == features_of(drawing, EDGE, second), "HealSplitsFeature")
+    node = alone[0]
+    require(not features_of(drawing, NODE, node), "NodeInFeature")
+    line, far = walked_from(node, f)
+    if node == e.end:
+        joined = e._replace(end=far, line=e.line + line[1:])
+    else:
+        joined = e._replace(start=far, line=line[:0:-1] + e.line)
+    number = drawing.next_edge if anew else first
+    del drawing.edges[second], drawing.nodes[node]
+    if anew:
+        del drawing.edges[first]
+        drawing.next_edge += 1
+    drawing.edges[number] = joined
+    follow(drawing, EDGE, [first, second], [number])
+    return [("edge", number), ("node", node)] if anew else [("node", node), ("edge", number)]
+
+
+# Layers.antt
+
+def add_layer(drawing, name, kind, child):
+    require(all(layer.name != name for layer in drawing.layers.values()), "NameTaken")
+    require(child is None or child in drawing.layers, "NoLayer")
+    require(child is None or drawing.layers[child].kind == kind, "WrongKind")
+    number = drawing.next_layer
+    level = 0 if child is None else drawing.layers[child].level + 1
+    drawing.layers[number] = Layer(level, child, kind, name)
+    drawing.next_layer += 1
+    return [("layer", number)]
+
+
+def require_element(drawing, layer, element, kind):
+    """A layer may list the element, by its type there."""
+    row = drawing.layers[layer]
+    require(kind == (row.kind if row.child is None else row.child), "WrongKind")
+    if row.child is not None:
+        require(drawing.features.get(element) == row.child, "NoFeature")
+        return
+    require((kind, element) != (FACE, 0), "UniverseElement")
+    there, rule = {NODE: (drawing.nodes, "NoNode"), EDGE: (drawing.edges, "NoEdge"), FACE: (drawing.faces, "NoFace")}[kind]
+    require(element in there, rule)
+
+
+def create_feature(drawing, layer, *elements):
+    require(layer in drawing.layers, "NoLayer")
+    rows = []
+    for element, kind in zip(elements[::2], elements[1::2]):
+        require_element(drawing, layer, element, kind)
+        row = Row(drawing.next_feature, kind, element)
+        require(row not in rows, "ElementListed")
+        rows.append(row)
+    number = drawing.next_feature
+    drawing.features[number] = layer
+    drawing.relations.update(rows)
+    drawing.next_feature += 1
+    return [("feature", number)]
+
+
+def add_element(drawing, feature, element, kind):
+    require(feature in drawing.features, "NoFeature")
+    require_element(drawing, drawing.features[feature], element, kind)
+    require(Row(feature, kind, element) not in drawing.relations, "ElementListed")
+    drawing.relations.add(Row(feature, kind, element))
+    return [("feature", feature)]
+
+
+def remove_element(drawing, feature, element, kind):
+    require(feature in drawing.features, "NoFeature")
+    require(Row(feature, kind, element) in drawing.relations, "ElementNotListed")
+    drawing.relations.remove(Row(feature, kind, element))
+    return [("feature", feature)]
+
+
+def drop_feature(drawing, feature):
+    require(feature in drawing.features, "NoFeature")
+    require(all(row.element != feature or not is_hierarchical(drawing, row) for row in drawing.relations), "FeatureUsed")
+    del drawing.features[feature]
+    drawing.relations = {row for row in drawing.relations if row.feature != feature}
+    return [("feature", feature)]
+
+
+# Descent.antt
+
+def elements_of(drawing, feature):
+    """The nodes, edges or faces to which a feature descends."""
+    below = [row for row in drawing.relations if row.feature == feature]
+    if drawing.layers[drawing.features[feature]].child is None:
+        return {row.element for row in below}
+    return {element for row in below for element in elements_of(drawing, row.element)}
 
 
 # Script.antt and Bindings.antt
@@ -456,6 +614,15 @@ EDITS = {  # the function of each edit, how many ids it names, and what follows 
     "addedgenewfaces": (lambda *given: add_edge(True, *given), 2, "line"),
     "remedgemodface": (lambda *given: remove_edge(False, *given), 1, "nothing"),
     "remedgenewface": (lambda *given: remove_edge(True, *given), 1, "nothing"),
+    "modedgesplit": (lambda *given: split_edge(False, *given), 1, "point"),
+    "newedgessplit": (lambda *given: split_edge(True, *given), 1, "point"),
+    "modedgeheal": (lambda *given: heal_edges(False, *given), 2, "nothing"),
+    "newedgeheal": (lambda *given: heal_edges(True, *given), 2, "nothing"),
+    "addlayer": (add_layer, 0, "layer"),
+    "createtopogeom": (create_feature, 1, "ids"),
+    "addelement": (add_element, 1, "ids"),
+    "remelement": (remove_element, 1, "ids"),
+    "dropfeature": (drop_feature, 1, "nothing"),
 }
 
 
@@ -477,9 +644,14 @@ class Run:
     def edit(self, words):
         """The ids of the reply to an edit, which is done."""
         function, id_count, rest = EDITS[words[0]]
-        ids = [self.id_of(word) for word in words[1:1 + id_count]]
-        points = points_of(words[1 + id_count:])
-        given = {"nothing": (), "point": points[:1], "line": (points,)}[rest]
+        ids, more = [self.id_of(word) for word in words[1:1 + id_count]], words[1 + id_count:]
+        if rest == "ids":
+            given = [self.id_of(word) for word in more]
+        elif rest == "layer":
+            given = more[0], KINDS[more[1]], self.id_of(more[2])
+        else:
+            points = points_of(more)
+            given = {"nothing": (), "point": points[:1], "line": (points,)}[rest]
         return function(self.drawing, *ids, *given)
 
     def bind(self, names, ids):
@@ -517,7 +689,7 @@ def face_box(drawing, face):
 
 def tables(drawing):
     """The lines of the final tables."""
-    yield f"next {drawing.next_node} {drawing.next_edge} {drawing.next_face} 1 1"
+    yield f"next {drawing.next_node} {drawing.next_edge} {drawing.next_face} {drawing.next_layer} {drawing.next_feature}"
     for number, node in drawing.nodes.items():
         yield f"node {number} {'-' if node.face is None else node.face} {points_text([node.point])}"
     leaving = leaving_each_node(drawing)
@@ -526,6 +698,19 @@ def tables(drawing):
         yield f"edge {number} {edge.start} {edge.end} {links} {edge.left} {edge.right} {len(edge.line)} {points_text(edge.line)}"
     for face in drawing.faces:
         yield f"face {face} {face_box(drawing, face)}"
+    for number, layer in drawing.layers.items():
+        yield f"layer {number} {layer.level} {'-' if layer.child is None else layer.child} {layer.kind} {layer.name}"
+    for number, layer in drawing.features.items():
+        yield f"feature {number} {layer}"
+    for row in sorted(drawing.relations):
+        yield f"relation {row.feature} {drawing.features[row.feature]} {row.element} {row.type}"
+
+
+def features(drawing):
+    """A line for each feature: its layer, the layer's type, and the elements to which it descends."""
+    for number, layer in drawing.features.items():
+        elements = sorted(elements_of(drawing, number))
+        yield " ".join(map(str, ["feature", number, layer, drawing.layers[layer].kind, len(elements)] + elements))
 
 
 def main():
@@ -534,7 +719,7 @@ def main():
         words = line.split()
         if words and not words[0].startswith("#"):
             print(run.reply(words))
-    for line in tables(run.drawing):
+    for line in (features if "--features" in sys.argv[1:] else tables)(run.drawing):
         print(line)
 
 

@@ -1,8 +1,8 @@
 #!/usr/bin/env bash
 # A random walk of COUNT edits (10,000 where none is given) from SEED (1), run by the program and by replay.py.
 # It prints how many edits were done and refused, and "the same" or the first line that differs.
-# With --script it prints the script and runs nothing; with --only-added no edge is removed but isolated ones.
-#   walk.sh [--script] [--only-added] [COUNT] [SEED]
+# With --script it prints the script and runs nothing; with --only-faces no edge is split or healed, and no layer comes.
+#   walk.sh [--script] [--only-faces] [COUNT] [SEED]
 set -euo pipefail
 top=$(cd "$(dirname "$0")/.." && pwd)
 here=$(cd "$(dirname "$0")" && pwd)
@@ -14,9 +14,10 @@ cat > "$work/walk.py" <<'PYTHON'
 """Prints a random walk. Its drawing is kept by replay.py, so that most of its edits name what is there."""
 import random
 import sys
+from math import gcd
 
 sys.path.insert(0, sys.argv[1])
-from replay import Run, has_only, is_line_blocked, is_simple
+from replay import EDGE, FACE, NODE, Run, has_only, is_line_blocked, is_simple, segments_of
 
 options = [word for word in sys.argv[2:] if word.startswith("--")]
 numbers = [int(word) for word in sys.argv[2:] if not word.startswith("--")]
@@ -151,10 +152,98 @@ def remove_isolated_edge():
     return words_of("removeisoedge", some_edge())
 
 
+def point_on(edge):
+    """Mostly a point with whole coordinates inside the line of an edge; else any near one of its vertices."""
+    line = run.drawing.edges[edge].line if edge in run.drawing.edges else [any_point()]
+    if len(line) < 2 or chance(10):
+        return near(choices.choice(line))
+    (ax, ay), (bx, by) = choices.choice(segments_of(tuple(line)))
+    parts = gcd(bx - ax, by - ay)
+    along = choices.randrange(parts + 1)
+    return ax + (bx - ax) // parts * along, ay + (by - ay) // parts * along
+
+
+def split_edge():
+    edge = some_edge()
+    return words_of(choices.choice(["modedgesplit", "newedgessplit"]), edge, *point_on(edge))
+
+
+def heal_edges():
+    """Two edges of a node, mostly of one that has no other."""
+    edges = run.drawing.edges
+    ends = [end for edge in edges.values() for end in (edge.start, edge.end)]
+    twice = [node for node in ends if ends.count(node) == 2] or ends or [0]
+    node = choices.choice(twice)
+    pair = [edge for edge, row in edges.items() if node in (row.start, row.end)] if chance(90) else []
+    first, second = choices.sample(pair, 2) if len(pair) > 1 else (some_edge(), some_edge())
+    return words_of(choices.choice(["modedgeheal", "newedgeheal"]), first, second)
+
+
+def some_layer():
+    return some_id(run.drawing.layers, run.drawing.next_layer)
+
+
+def some_feature():
+    return some_id(run.drawing.features, run.drawing.next_feature)
+
+
+def add_layer():
+    child = some_layer() if run.drawing.layers and chance(50) else "-"
+    kinds = ["", "puntal", "lineal", "areal"]
+    kind = kinds[run.drawing.layers[child].kind] if child in run.drawing.layers and chance(90) else choices.choice(kinds[1:])
+    return words_of("addlayer", f"layer{choices.randrange(run.drawing.next_layer * 4)}", kind, child)
+
+
+def element_for(layer):
+    """An element that the layer may list, mostly, and its type there."""
+    drawing = run.drawing
+    if layer not in drawing.layers or chance(4):
+        return choices.randrange(5), choices.randrange(5)
+    row = drawing.layers[layer]
+    if row.child is not None:
+        fit = [feature for feature, of in drawing.features.items() if of == row.child]
+        return (choices.choice(fit) if fit and chance(95) else some_feature()), row.child
+    ids = {NODE: (drawing.nodes, drawing.next_node), EDGE: (drawing.edges, drawing.next_edge),
+           FACE: ([face for face in drawing.faces if face or chance(5)], drawing.next_face)}[row.kind]
+    return some_id(*ids), row.kind
+
+
+def create_feature():
+    layer = some_layer()
+    elements = [element_for(layer) for _ in range(choices.randrange(4))]
+    return words_of("createtopogeom", layer, *[number for element in elements for number in element])
+
+
+def add_element():
+    feature = some_feature()
+    return words_of("addelement", feature, *element_for(run.drawing.features.get(feature)))
+
+
+def remove_element():
+    rows = sorted(run.drawing.relations)
+    if rows and chance(90):
+        row = choices.choice(rows)
+        return words_of("remelement", row.feature, row.element, row.type)
+    return words_of("remelement", some_feature(), *element_for(some_layer()))
+
+
+def drop_feature():
+    return words_of("dropfeature", some_feature())
+
+
+def list_features():
+    """Mostly one more feature while there are few, and mostly one less where there are many."""
+    if len(run.drawing.layers) < 8 and chance(10) or chance(1):
+        return add_layer()
+    few = len(run.drawing.features) < 12
+    return choices.choice([create_feature, add_element, remove_element, create_feature if few else drop_feature, drop_feature])()
+
+
 nodes = [(add_node, 14), (move_node, 6), (remove_node, 8)]
 edges = [(add_edge, 50), (add_isolated_edge, 6), (remove_isolated_edge, 3)]
-removed = [] if "--only-added" in options else [(remove_edge, 1)]
-growing, shrinking = ([make for make, weight in nodes + edges + removed * most for _ in range(weight)] for most in (4, 90))
+more = [] if "--only-faces" in options else [(split_edge, 12), (heal_edges, 20), (list_features, 20)]
+removed = [(remove_edge, 1)]
+growing, shrinking = ([make for make, weight in nodes + edges + more + removed * most for _ in range(weight)] for most in (4, 90))
 print("# Made by bench/walk.sh " + words_of("--script", *[o for o in options if o != "--script"], count, seed)
       + ": a random walk on a grid of 6 by 6 points.")
 aim = 30  # so many edges are to be reached, from below or above; then comes another aim

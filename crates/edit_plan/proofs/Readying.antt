@@ -8,8 +8,11 @@ use Rattle.topo_model.specs.IsoEdits.{accepts_face}
 use Rattle.topo_model.specs.Subdivision.{ids_in_order, rows_in_order, face_id_of, is_edge_known, is_face_known, is_node_known}
 use Rattle.iso_edits.specs.Ready.{KnowsFaces, knows_containing, knows_sides}
 use Rattle.iso_edits.specs.Ready as iso
+use Rattle.edge_heal.specs.Ready as heal
 use Rattle.face_merge.specs.Ready as merge
 use Rattle.face_split.specs.Ready as split
+use Rattle.layer_tree.specs.Ready as layers
+use Rattle.topogeom_points.specs.Ready as features
 use Rattle.reference_laws.specs.Referenced.{IsReferenced}
 use Rattle.edit_plan.specs.Ready.{IsReady}
 
@@ -50,10 +53,19 @@ knows_faces S h = record {
 
 -- ---- each planner
 pub ready_for_isolated : (S : Drawing) → IsReady S → iso.IsReady S
-ready_for_isolated S h = record { plain = h.kept.rings.rings.plain; faces = knows_faces S h.kept; node_more = h.node_more; edge_more = h.edge_more }
+ready_for_isolated S h = record { plain = h.kept.rings.rings.plain; faces = knows_faces S h.kept; node_more = h.node_more; edge_more = omega (arith, h.edge_more) }
 
 pub ready_for_added : (S : Drawing) → IsReady S → split.IsReady S
-ready_for_added S h = record { ringed = h.kept.rings; ids = h.kept.ids; references = h.kept.references; edge_more = h.edge_more; face_more = h.face_more }
+ready_for_added S h = record { ringed = h.kept.rings; ids = h.kept.ids; references = h.kept.references; edge_more = omega (arith, h.edge_more); face_more = h.face_more }
 
 pub ready_for_removed : (S : Drawing) → IsReady S → merge.IsReady S
 ready_for_removed S h = record { plain = h.kept.rings.rings.plain; ids = h.kept.ids; references = h.kept.references; face_more = omega (arith, h.face_more) }
+
+pub ready_for_splits_and_heals : (S : Drawing) → IsReady S → heal.IsReady S
+ready_for_splits_and_heals S h = record { ringed = h.kept.rings; ids = h.kept.ids; references = h.kept.references; node_more = h.node_more; edge_more = h.edge_more }
+
+pub ready_for_layers : (S : Drawing) → IsReady S → layers.IsReady S
+ready_for_layers S h = record { ids = h.kept.ids; references = h.kept.references; layer_more = h.layer_more }
+
+pub ready_for_features : (S : Drawing) → IsReady S → features.IsReady S
+ready_for_features S h = record { ids = h.kept.ids; references = h.kept.references; feature_more = h.feature_more }

@@ -2,15 +2,14 @@
 use Rattle.std.proofs.Common.{◌≡◌, ℕ, ◌&&◌, List, [], ◌∷◌, ◌++◌, IsTrue, sym, ap, subst, ◌∙◌}
 use Rattle.std.specs.Prelude.{codes, nat_le, length}
 use Rattle.std.specs.List.{list_all}
-use Rattle.std.proofs.lemmas.Bool.{and_parts, and_from}
+use Rattle.std.proofs.lemmas.Bool.{and_parts}
 use Rattle.topo_base.specs.Names.{is_name}
 use Rattle.topo_base.specs.ScriptLines.{ScriptLine}
 use Rattle.topo_base.specs.declared.named.NamedEdit.{NamedEdit}
 use Rattle.topo_base.specs.declared.named.NamedEdit.TheVariants.{AddIsoNode, MoveIsoNode, RemoveIsoNode, AddIsoEdge, RemoveIsoEdge, AddEdgeModFace, AddEdgeNewFaces, RemEdgeModFace, RemEdgeNewFace, ModEdgeSplit, NewEdgesSplit, ModEdgeHeal, NewEdgeHeal, AddLayer, CreateTopoGeom, AddElement, RemElement, DropFeature}
 use Rattle.topo_model.specs.InRange.{is_grid_point}
-use Rattle.topo_model.specs.NamedRange.{is_id_word, is_option_id_word, is_named_pair, is_new_line, is_named_edit, is_script_line}
+use Rattle.topo_model.specs.NamedRange.{is_id_word, is_option_id_word, is_named_pair, is_new_line, is_named_edit}
 use Rattle.topo_model.specs.NamedWords.{named_words, names_words}
-use Rattle.script_reader.specs.Built.{is_built, can_spell}
 use Rattle.script_reader.specs.Reading.{AreNames, IsEdit, AreWordsOf}
 use Rattle.script_reader.proofs.IdWords.{id_not_equals, option_id_not_equals}
 
@@ -65,21 +64,14 @@ pub no_edit : (words : List (List ℕ)) (e : NamedEdit) → words ≡ [] → IsE
 no_edit words e none h = words_some e (sym none ∙ h.spelled)
 
 -- ---- lines
--- the edit of a line
-pub edit_good : (l : ScriptLine) → IsTrue (can_spell l) → IsTrue (is_named_edit l.edit && is_built l.edit)
-edit_good l h =
-    let parts = and_parts (is_script_line l) (is_built l.edit) h in
-    and_from (is_named_edit l.edit) (is_built l.edit) (and_parts (list_all is_name l.names) (is_named_edit l.edit) parts.0).1 parts.1
-
-pub names_good : (l : ScriptLine) → IsTrue (can_spell l) → IsTrue (list_all is_name l.names)
-names_good l h = (and_parts (list_all is_name l.names) (is_named_edit l.edit) (and_parts (is_script_line l) (is_built l.edit) h).0).0
-
 -- a line whose second word is = binds the names of the first, and the words behind are those of its edit
-binding_by : (word : List ℕ) (words : List (List ℕ)) (ns : List (List ℕ)) (e : NamedEdit) → IsTrue (list_all is_name ns) → IsTrue (is_named_edit e && is_built e)
+binding_by : (word : List ℕ) (words : List (List ℕ)) (ns : List (List ℕ)) (e : NamedEdit) → IsTrue (list_all is_name ns) → IsTrue (is_named_edit e)
     → word ∷ codes "=" ∷ words ≡ names_words ns ++ named_words e → AreNames word ns × IsEdit words e
-binding_by word words [] e names good is = absurd (not_binding word words e (and_parts (is_named_edit e) (is_built e) good).0 is)
+binding_by word words [] e names good is = absurd (not_binding word words e good is)
 binding_by word words (n ∷ ns) e names good is =
     (record { good = names; spelled = ap (λ w. w ∷ codes "=" ∷ []) cc }, record { good = good; spelled = cc })
 
 pub binding_parts : (word : List ℕ) (words : List (List ℕ)) (l : ScriptLine) → AreWordsOf (word ∷ codes "=" ∷ words) l → AreNames word l.names × IsEdit words l.edit
-binding_parts word words l h = binding_by word words l.names l.edit (names_good l h.good) (edit_good l h.good) h.spelled
+binding_parts word words l h =
+    let parts = and_parts (list_all is_name l.names) (is_named_edit l.edit) h.good in
+    binding_by word words l.names l.edit parts.0 parts.1 h.spelled

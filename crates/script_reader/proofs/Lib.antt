@@ -1,6 +1,7 @@
 pub mod LineEnds
 pub mod WordSplits
 pub mod VertexWords
+pub mod PairWords
 pub mod IdWords
 pub mod NameSplits
 pub mod EditWords
@@ -8,4 +9,3 @@ pub mod ScriptSteps
 pub mod NamedEdits
 pub mod Naming
 pub mod Pairing
-pub mod Spelled

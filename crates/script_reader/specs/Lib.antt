@@ -1,4 +1,4 @@
-pub mod Built
+pub mod EditKinds
 pub mod Bindings
 pub mod Lines
 pub mod Parting

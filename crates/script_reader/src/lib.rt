@@ -5,10 +5,16 @@
 //! the id to which it was bound last. Whether an edit is accepted is left to the crates above.
 #![tactic(auto)]
 
+mod arguments;
 mod bindings;
+mod edge_edits;
 mod edits;
+mod elements;
 mod end;
+mod feature_edits;
 mod ids;
+mod isolated_edits;
+mod kinds;
 mod line;
 mod lines;
 mod names;

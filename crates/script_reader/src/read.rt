@@ -1,6 +1,6 @@
 ghost use Rattle.std.specs.Prelude.{◌≡◌, ◌≤◌, ◌∷◌, ℕ, List, codes, length, IfOk, MatchOption};
 ghost use Rattle.topo_model.specs.Script.{IsScript, IsFirstBad, words_of};
-ghost use Rattle.script_reader.specs.Built.{can_spell};
+ghost use Rattle.topo_model.specs.NamedRange.{is_script_line};
 ghost use Rattle.script_reader.specs.Reading.{Finds, AreWordsOf, IsReading};
 
 use crate::ScriptLine;
@@ -112,10 +112,10 @@ fn read_line(alloc: Global, line: &[u8]) -> Result<Reading, Memory>
 
 /// The lines of a script, without those that are skipped, or its first bad line.
 pub fn read_script(alloc: Global, text: &[u8]) -> Result<Vec<ScriptLine>, ScriptEnd>
-    ensures script { IfOk result (λ ls. IsScript can_spell text.now ls.items) }
+    ensures script { IfOk result (λ ls. IsScript is_script_line text.now ls.items) }
     ensures short { IfOk result (λ ls. length ls.items ≤ length text.now) }
     ensures near { (n : ℕ) → result ≡ Err (ScriptEnd.BadLine n) → n ≤ length text.now }
-    ensures bad { (n : ℕ) → result ≡ Err (ScriptEnd.BadLine n) → IsFirstBad can_spell text.now n }
+    ensures bad { (n : ℕ) → result ≡ Err (ScriptEnd.BadLine n) → IsFirstBad is_script_line text.now n }
 {
     let mut lines = Vec::new(alloc);
     let mut rest = text;

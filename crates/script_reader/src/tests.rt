@@ -139,6 +139,98 @@ fn removed_edges_are_read(rt: HostRuntime) -> Result<(), Fail> {
 }
 
 #[test]
+fn splits_are_read(rt: HostRuntime) -> Result<(), Fail> {
+    is_read(
+        &rt,
+        rt.alloc(),
+        b"n,e = modedgesplit $fence 4 -1".as_slice(),
+        1,
+        2,
+    );
+    is_read(&rt, rt.alloc(), b"newedgessplit 7 0 0".as_slice(), 1, 0);
+    is_bad(&rt, rt.alloc(), b"modedgesplit 1 0".as_slice(), 1);
+    is_bad(&rt, rt.alloc(), b"newedgesplit 1 0 0".as_slice(), 1);
+    Ok(())
+}
+
+#[test]
+fn heals_are_read(rt: HostRuntime) -> Result<(), Fail> {
+    is_read(
+        &rt,
+        rt.alloc(),
+        b"n,e = modedgeheal $west 7".as_slice(),
+        1,
+        2,
+    );
+    is_read(&rt, rt.alloc(), b"newedgeheal 1 $east".as_slice(), 1, 0);
+    is_bad(&rt, rt.alloc(), b"modedgeheal 1".as_slice(), 1);
+    is_bad(&rt, rt.alloc(), b"newedgeheal 1 2 3".as_slice(), 1);
+    Ok(())
+}
+
+#[test]
+fn layers_and_features_are_read(rt: HostRuntime) -> Result<(), Fail> {
+    let rows = [
+        "addlayer parcels areal -",
+        "addlayer roads_2 lineal 4294967295",
+        "addlayer wells puntal $w",
+        "createtopogeom 1",
+        "createtopogeom $l 1 3 $face 3",
+        "addelement 1 2 3",
+        "remelement $t $face $type",
+        "dropfeature $t",
+    ];
+    for line in rows {
+        is_read(&rt, rt.alloc(), line.as_bytes(), 1, 0);
+    }
+    Ok(())
+}
+
+#[test]
+fn bad_layers_and_features_are_named(rt: HostRuntime) -> Result<(), Fail> {
+    let rows = [
+        "addlayer parcels areal",
+        "addlayer parcels area -",
+        "addlayer parcels 3 -",
+        "addlayer Parcels areal -",
+        "addlayer $parcels areal -",
+        "addlayer parcels areal - 1",
+        "createtopogeom",
+        "createtopogeom -",
+        "createtopogeom 1 2",
+        "createtopogeom 1 2 3 4",
+        "createtopogeom 1 2 -",
+        "addelement 1 2",
+        "addelement 1 2 areal",
+        "remelement 1 2 3 4",
+        "dropfeature",
+        "dropfeature 1 2",
+    ];
+    for line in rows {
+        is_bad(&rt, rt.alloc(), line.as_bytes(), 1);
+    }
+    Ok(())
+}
+
+/// A script of one line, which lists so many elements.
+fn feature_script(alloc: Global, elements: usize) -> Result<Vec<u8>, Fail> {
+    let mut script = b"createtopogeom 1".to_vec(alloc)?;
+    for _ in 0..elements {
+        script.extend_from_slice(b" 1 3")?;
+    }
+    Ok(script)
+}
+
+#[test]
+fn a_feature_has_at_most_4096_elements(rt: HostRuntime) -> Result<(), Fail> {
+    let longest = feature_script(rt.alloc(), 4096)?;
+    is_read(&rt, rt.alloc(), &longest, 1, 0);
+    let longer = feature_script(rt.alloc(), 4097)?;
+    is_bad(&rt, rt.alloc(), &longer, 1);
+    Ok(())
+}
+
+#[test]
 fn bad_isolated_edits_are_named(rt: HostRuntime) -> Result<(), Fail> {
     let rows = [
         "moveisonode",

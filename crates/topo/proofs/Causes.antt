@@ -5,12 +5,11 @@ use Rattle.std.specs.Io.KnownBytes.{Appends}
 use Rattle.std.specs.List.{list_all}
 use Rattle.topo_base.specs.ScriptLines.{ScriptLine}
 use Rattle.topo_base.specs.declared.answer.Answer.{Answer}
-use Rattle.script_reader.specs.Built.{can_spell}
+use Rattle.topo_model.specs.NamedRange.{is_script_line}
 use Rattle.topo_io.specs.Causes.{Rose}
 use Rattle.topo_model.specs.Script.{IsScript, IsFirstBad, lines_of, edit_lines}
 use Rattle.topo_model.specs.Run.{status_of, is_done}
 use Rattle.topo_model.specs.ScriptRun.{script_answers}
-use Rattle.script_reader.proofs.Spelled.{line_spelled}
 use Rattle.topo_model.proofs.Scripts.{lines_or_bad}
 use Rattle.topo_model.proofs.ScriptsUnique.{script_unique}
 use Rattle.topo.specs.Endings.{Outside, said, unsaid, says, no_memory, ran_whole, ran_cut, Ending, bad_words, source_fault, too_long, not_read, no_script, bad_line, ran, IsApply, max_source, HasRun, HasBadLine, HasFront, words_front, source_front, long_front, nothing_written, line_front, script_front}
@@ -153,23 +152,23 @@ other_of_end words old new result (ended_memory is p q) = (λ e. omega arith, λ
 other_of_end words old new result (ended_long is p q) = (λ e. omega arith, λ e. omega arith)
 
 -- ---- nothing else may come
-pub complete : (words : List (List ℕ)) (old new : Outside) (result : ℕ) (bytes : List ℕ) (es : List ScriptLine) → IsApply words → old.source.left ≡ Some bytes → IsScript can_spell bytes es → length bytes ≤ max_source
+pub complete : (words : List (List ℕ)) (old new : Outside) (result : ℕ) (bytes : List ℕ) (es : List ScriptLine) → IsApply words → old.source.left ≡ Some bytes → IsScript is_script_line bytes es → length bytes ≤ max_source
     → (Rose old.source.faults new.source.faults → ⊥) → (Rose old.sink.faults new.sink.faults → ⊥) → Ended words old new result → (result ≡ status_of (script_answers es)) ⊎ (result ≡ 8)
 complete words old new result bytes es good e h fits calm still (ended_run small run) =
-    let same = script_unique can_spell line_spelled (edit_lines (lines_of bytes)) run.script es (at_some (λ bs. IsScript can_spell bs run.script) old.source.left bytes e run.read.told) h in
+    let same = script_unique is_script_line (λ l good. good) (edit_lines (lines_of bytes)) run.script es (at_some (λ bs. IsScript is_script_line bs run.script) old.source.left bytes e run.read.told) h in
     inl (run.run.status ∙ ap (λ fs. status_of (script_answers fs)) same)
 complete words old new result bytes es good e h fits calm still (ended_words is p q) = absurd (p good)
 complete words old new result bytes es good e h fits calm still (ended_line is p) =
-    absurd (lines_or_bad can_spell (lines_of bytes) es p.number h (at_some (λ bs. IsFirstBad can_spell bs p.number) old.source.left bytes e p.read.told))
+    absurd (lines_or_bad is_script_line (lines_of bytes) es p.number h (at_some (λ bs. IsFirstBad is_script_line bs p.number) old.source.left bytes e p.read.told))
 complete words old new result bytes es good e h fits calm still (ended_source is p q) = absurd (calm p)
 complete words old new result bytes es good e h fits calm still (ended_sink is p q) = absurd (still p)
 complete words old new result bytes es good e h fits calm still (ended_memory is p q) = inr is
 complete words old new result bytes es good e h fits calm still (ended_long is p q) = absurd (not_both old.source.left bytes max_source e p fits)
 
-pub all_lines_of : (words : List (List ℕ)) (old new : Outside) (result : ℕ) (bytes : List ℕ) (n : ℕ) → IsApply words → old.source.left ≡ Some bytes → IsFirstBad can_spell bytes n → length bytes ≤ max_source
+pub all_lines_of : (words : List (List ℕ)) (old new : Outside) (result : ℕ) (bytes : List ℕ) (n : ℕ) → IsApply words → old.source.left ≡ Some bytes → IsFirstBad is_script_line bytes n → length bytes ≤ max_source
     → (Rose old.source.faults new.source.faults → ⊥) → Ended words old new result → (result ≡ 3) ⊎ ((result ≡ 6) ⊎ (result ≡ 8))
 all_lines_of words old new result bytes n good e bad fits calm (ended_run small run) =
-    absurd (lines_or_bad can_spell (lines_of bytes) run.script n (at_some (λ bs. IsScript can_spell bs run.script) old.source.left bytes e run.read.told) bad)
+    absurd (lines_or_bad is_script_line (lines_of bytes) run.script n (at_some (λ bs. IsScript is_script_line bs run.script) old.source.left bytes e run.read.told) bad)
 all_lines_of words old new result bytes n good e bad fits calm (ended_words is p q) = absurd (p good)
 all_lines_of words old new result bytes n good e bad fits calm (ended_line is p) = inl is
 all_lines_of words old new result bytes n good e bad fits calm (ended_source is p q) = absurd (calm p)

@@ -11,8 +11,7 @@ use Rattle.topo_base.specs.declared.answer.Answer.TheVariants.{Memory}
 use Rattle.topo_io.specs.Causes.{Rose}
 use Rattle.topo_io.specs.Sinks.{IsFront, AppendsFront}
 use Rattle.topo_io.proofs.Written.{appended_more, front_more, front_whole}
-use Rattle.script_reader.specs.Built.{can_spell}
-use Rattle.script_reader.proofs.Spelled.{lines_spelled}
+use Rattle.topo_model.specs.NamedRange.{is_script_line}
 use Rattle.topo_model.specs.Texts.{reply_text, replies_text, tables_text}
 use Rattle.topo_model.specs.ScriptRun.{Place, beginning, answer_at, script_answers, AreScriptAnswers, due}
 use Rattle.topo_model.proofs.ScriptRunning.{front_answers, short_answers, front_replayed, short_replayed, scripts_right}
@@ -58,13 +57,13 @@ cut_since old mid new result same (inl failed) = inl (failed.0, subst (λ n. Ros
 cut_since old mid new result same (inr is) = inr is
 
 -- ---- a run to the end
-pub runs_whole : (ls : List ScriptLine) (old mid new : SinkView) (status result : ℕ) → IsTrue (list_all can_spell ls) → Appends old.written mid.written (replies start ls) → mid.faults ≡ old.faults
+pub runs_whole : (ls : List ScriptLine) (old mid new : SinkView) (status result : ℕ) → IsTrue (list_all is_script_line ls) → Appends old.written mid.written (replies start ls) → mid.faults ≡ old.faults
     → status ≡ cond (next_all start ls).all_done 0 1 → Prints mid new (tables_text (next_all start ls).place.drawing) status result → RunsScript ls old new result
 runs_whole ls old mid new status result good text same stat (printed is rows calm) = ran_whole (record {
   status = is ∙ stat ∙ ap (λ b. cond b 0 1) (next_all_done start ls);
   text = subst (Appends old.written new.written) (sym (due_all ls)) (appended_more old.written mid.written new.written _ _ text rows);
-  right = scripts_right ls (script_answers ls) (lines_spelled ls good) (subst (λ ks. AreScriptAnswers ls (script_answers ks)) (take-length ls) (front_answers beginning ls (length ls)));
-  referenced = referenced_run ls (script_answers ls) (scripts_right ls (script_answers ls) (lines_spelled ls good) (subst (λ ks. AreScriptAnswers ls (script_answers ks)) (take-length ls) (front_answers beginning ls (length ls))));
+  right = scripts_right ls (script_answers ls) good (subst (λ ks. AreScriptAnswers ls (script_answers ks)) (take-length ls) (front_answers beginning ls (length ls)));
+  referenced = referenced_run ls (script_answers ls) (scripts_right ls (script_answers ls) good (subst (λ ks. AreScriptAnswers ls (script_answers ks)) (take-length ls) (front_answers beginning ls (length ls))));
   calm = calm ∙ same;
 })
 runs_whole ls old mid new status result good text same stat (print_cut by rows) =
@@ -72,8 +71,8 @@ runs_whole ls old mid new status result good text same stat (print_cut by rows) 
     ran_cut (cut_since old mid new result same by) (record {
       given = script_answers ls;
       answers = answered;
-      right = scripts_right ls (script_answers ls) (lines_spelled ls good) answered;
-      referenced = referenced_run ls (script_answers ls) (scripts_right ls (script_answers ls) (lines_spelled ls good) answered);
+      right = scripts_right ls (script_answers ls) good answered;
+      referenced = referenced_run ls (script_answers ls) (scripts_right ls (script_answers ls) good answered);
       text = replies start ls ++ rows.front;
       due_front = (rows.begins.0, append_assoc (replies start ls) rows.front rows.begins.0 ∙ ap (λ l. replies start ls ++ l) rows.begins.1 ∙ sym (due_all ls));
       whole_lines = longer_front _ _ rows.front (but_last_front (script_answers ls));
@@ -85,7 +84,7 @@ part_of : (mid new : SinkView) (text : List ℕ) (result : ℕ) → Prints mid n
 part_of mid new text result (printed is p calm) = (inr is, front_whole mid.written new.written text [] text p (append-nil text))
 part_of mid new text result (print_cut by p) = (by, p)
 
-pub runs_short : (ls : List ScriptLine) (old mid new : SinkView) (n result : ℕ) → IsTrue (list_all can_spell ls) → n < length ls → Appends old.written mid.written (replies start (take n ls)) → mid.faults ≡ old.faults
+pub runs_short : (ls : List ScriptLine) (old mid new : SinkView) (n result : ℕ) → IsTrue (list_all is_script_line ls) → n < length ls → Appends old.written mid.written (replies start (take n ls)) → mid.faults ≡ old.faults
     → Prints mid new (codes "memory\n" ++ tables_text (next_all start (take n ls)).place.drawing) 8 result → RunsScript ls old new result
 runs_short ls old mid new n result good inside text same ended =
     let part = part_of mid new _ result ended in
@@ -98,8 +97,8 @@ runs_short ls old mid new n result good inside text same ended =
     ran_cut (cut_since old mid new result same part.0) (record {
       given = given;
       answers = answered;
-      right = scripts_right ls given (lines_spelled ls good) answered;
-      referenced = referenced_run ls given (scripts_right ls given (lines_spelled ls good) answered);
+      right = scripts_right ls given good answered;
+      referenced = referenced_run ls given (scripts_right ls given good answered);
       text = before ++ front;
       due_front = (rest, append_assoc before front rest ∙ ap (λ l. before ++ l) part.1.begins.1 ∙ sym (append_assoc before (codes "memory\n") rows) ∙ sym (due_short ls n inside));
       whole_lines = (front, ap (λ (given : List Answer). replies_text given ++ front) (all_but_last-push (script_answers (take n ls)) Memory));
@@ -107,7 +106,7 @@ runs_short ls old mid new n result good inside text same ended =
     })
 
 -- ---- a run in which a reply was cut
-pub runs_cut : (ls : List ScriptLine) (old new : SinkView) (result : ℕ) → IsTrue (list_all can_spell ls) → CutsShort start ls old.written new.written → IsCutBy old new result → RunsScript ls old new result
+pub runs_cut : (ls : List ScriptLine) (old new : SinkView) (result : ℕ) → IsTrue (list_all is_script_line ls) → CutsShort start ls old.written new.written → IsCutBy old new result → RunsScript ls old new result
 runs_cut ls old new result good cut by =
     let n = cut.tried in
     let before = replies start (take n ls) in
@@ -126,8 +125,8 @@ runs_cut ls old new result good cut by =
     ran_cut by (record {
       given = given;
       answers = answered;
-      right = scripts_right ls given (lines_spelled ls good) answered;
-      referenced = referenced_run ls given (scripts_right ls given (lines_spelled ls good) answered);
+      right = scripts_right ls given good answered;
+      referenced = referenced_run ls given (scripts_right ls given good answered);
       text = before ++ cut.front;
       due_front = (rest ++ rows, whole ∙ sym (due_front ls (n + 1)));
       whole_lines = (cut.front, ap (λ (given : List Answer). replies_text given ++ cut.front) (ap all_but_last last ∙ all_but_last-push (script_answers (take n ls)) _));
@@ -141,7 +140,7 @@ prints_then old mid new x y status result p same (print_cut by q) =
     print_cut (cut_since old mid new result same by) (front_more old.written mid.written new.written x y [] (x ++ y) p q (ap (λ l. x ++ l) (append-nil y)))
 
 -- ---- the same from a desk with nothing drawn
-pub ends_whole : (ls : List ScriptLine) (d t : State) (old mid new : SinkView) (b : Bool) (status result : ℕ) → IsTrue (list_all can_spell ls) → d ≡ start → Shows t (next_all d ls)
+pub ends_whole : (ls : List ScriptLine) (d t : State) (old mid new : SinkView) (b : Bool) (status result : ℕ) → IsTrue (list_all is_script_line ls) → d ≡ start → Shows t (next_all d ls)
     → Appends old.written mid.written (replies d ls) → mid.faults ≡ old.faults → b ≡ t.all_done → status ≡ cond b 0 1 → Prints mid new (tables_text t.place.drawing) status result → RunsScript ls old new result
 ends_whole ls d t old mid new b status result good from at text same done stat ended =
     let drawn = at.drawing ∙ ap (λ x. (next_all x ls).place.drawing) from in
@@ -150,7 +149,7 @@ ends_whole ls d t old mid new b status result good from at text same done stat e
     (stat ∙ ap (λ x. cond x 0 1) (done ∙ all))
     (subst (λ S. Prints mid new (tables_text S) status result) drawn ended)
 
-pub ends_short : (ls : List ScriptLine) (d t : State) (old mid new : SinkView) (result : ℕ) → IsTrue (list_all can_spell ls) → d ≡ start → StopsShort d t ls old.written mid.written
+pub ends_short : (ls : List ScriptLine) (d t : State) (old mid new : SinkView) (result : ℕ) → IsTrue (list_all is_script_line ls) → d ≡ start → StopsShort d t ls old.written mid.written
     → mid.faults ≡ old.faults → Prints mid new (codes "memory\n" ++ tables_text t.place.drawing) 8 result → RunsScript ls old new result
 ends_short ls d t old mid new result good from stop same ended =
     let tried = take stop.tried ls in
@@ -158,5 +157,5 @@ ends_short ls d t old mid new result good from stop same ended =
     runs_short ls old mid new stop.tried result good stop.inside (subst (λ x. Appends old.written mid.written (replies x tried)) from stop.text) same
     (subst (λ S. Prints mid new (codes "memory\n" ++ tables_text S) 8 result) drawn ended)
 
-pub ends_cut : (ls : List ScriptLine) (d : State) (old new : SinkView) (result : ℕ) → IsTrue (list_all can_spell ls) → d ≡ start → CutsShort d ls old.written new.written → IsCutBy old new result → RunsScript ls old new result
+pub ends_cut : (ls : List ScriptLine) (d : State) (old new : SinkView) (result : ℕ) → IsTrue (list_all is_script_line ls) → d ≡ start → CutsShort d ls old.written new.written → IsCutBy old new result → RunsScript ls old new result
 ends_cut ls d old new result good from cut by = runs_cut ls old new result good (subst (λ x. CutsShort x ls old.written new.written) from cut) by

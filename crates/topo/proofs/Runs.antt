@@ -5,27 +5,22 @@ use Rattle.std.specs.Io.KnownBytes.{Appends}
 use Rattle.std.specs.List.{list_all}
 use Rattle.std.proofs.lemmas.List.{take_more}
 use Rattle.std.proofs.lemmas.List.Concat.{flat_map-append}
-use Rattle.std.proofs.lemmas.Bool.{and_parts, and_from}
+use Rattle.std.proofs.lemmas.Bool.{and_parts}
 use Rattle.topo_base.specs.ScriptLines.{ScriptLine}
 use Rattle.topo_base.specs.declared.edit.Edit.{Edit}
 use Rattle.topo_base.specs.declared.element.Element.{Element}
 use Rattle.topo_base.specs.declared.answer.Answer.{Answer}
 use Rattle.topo_base.specs.declared.answer.Answer.TheVariants.{Done, Refused, Unbound, Stale, DiskFault, Memory}
-use Rattle.topo_base.specs.declared.named.NamedEdit.{NamedEdit}
-use Rattle.topo_base.specs.declared.named.NamedEdit.TheVariants.{AddIsoNode, MoveIsoNode, RemoveIsoNode, AddIsoEdge, RemoveIsoEdge, AddEdgeModFace, AddEdgeNewFaces, RemEdgeModFace, RemEdgeNewFace}
-use Rattle.edit_plan.specs.Ready.{is_planned}
 use Rattle.script_reader.specs.Bindings.{names_of}
-use Rattle.script_reader.specs.Built.{is_built, can_spell}
-use Rattle.script_reader.proofs.Spelled.{line_spelled}
 use Rattle.topo_io.specs.Sinks.{AppendsFront}
 use Rattle.topo_io.proofs.Written.{appended_more, appended_none}
 use Rattle.topo_model.specs.Drawing.{Drawing}
 use Rattle.topo_model.specs.Legal.{keeps_limits}
 use Rattle.topo_model.specs.Outcome.{Outcome}
 use Rattle.topo_model.specs.Step.{step}
-use Rattle.topo_model.proofs.Resolving.{one_is, two_is, given_is, edit_limits, good_edit}
+use Rattle.topo_model.proofs.Resolving.{edit_limits, good_edit}
 use Rattle.topo_model.specs.Replay.{answer_of, front_after}
-use Rattle.topo_model.specs.Bindings.{Names, id_of, resolve, bound, ids_of}
+use Rattle.topo_model.specs.Bindings.{Names, resolve, bound, ids_of}
 use Rattle.topo_model.specs.NamedRange.{is_script_line}
 use Rattle.topo_model.specs.Texts.{reply_text}
 use Rattle.topo_model.specs.Run.{is_done}
@@ -84,63 +79,46 @@ list_all-at p [] i l h inside is = absurd (omega arith)
 list_all-at p (x ∷ ls) zero l h inside is = let parts = and_parts (p x) (list_all p ls) h in subst (λ y. IsTrue (p y)) (sym is) parts.0
 list_all-at p (x ∷ ls) (suc i) l h inside is = let parts = and_parts (p x) (list_all p ls) h in list_all-at p ls i l parts.1 (omega arith) is
 
--- ---- the edit that a line gives can be planned
-pub built_planned : (b : Names) (n : NamedEdit) (e : Edit) → IsTrue (is_built n) → resolve b n ≡ Some e → IsTrue (is_planned e)
-built_planned b (AddIsoNode face p) e good is = given_is is_planned b face _ e (λ n. refl) is
-built_planned b (MoveIsoNode n p) e good is = one_is is_planned (id_of b n) _ e (λ n. refl) is
-built_planned b (RemoveIsoNode n) e good is = one_is is_planned (id_of b n) _ e (λ n. refl) is
-built_planned b (AddIsoEdge s t line) e good is = two_is is_planned (id_of b s) (id_of b t) _ e (λ n m. refl) is
-built_planned b (RemoveIsoEdge n) e good is = one_is is_planned (id_of b n) _ e (λ n. refl) is
-built_planned b (AddEdgeModFace s t line) e good is = two_is is_planned (id_of b s) (id_of b t) _ e (λ n m. refl) is
-built_planned b (AddEdgeNewFaces s t line) e good is = two_is is_planned (id_of b s) (id_of b t) _ e (λ n m. refl) is
-built_planned b (RemEdgeModFace n) e good is = one_is is_planned (id_of b n) _ e (λ n. refl) is
-built_planned b (RemEdgeNewFace n) e good is = one_is is_planned (id_of b n) _ e (λ n. refl) is
-built_planned b n e good is = absurd cc
+-- ---- the edit that a line gives keeps the limits
+pub line_limits : (b : Names) (l : ScriptLine) (e : Edit) → IsTrue (is_script_line l) → resolve b l.edit ≡ Some e → IsTrue (keeps_limits e)
+line_limits b l e good is = edit_limits b l.edit e (good_edit l good) is
 
-pub line_planned : (b : Names) (l : ScriptLine) (e : Edit) → IsTrue (can_spell l) → resolve b l.edit ≡ Some e → IsTrue (is_planned e)
-line_planned b l e good is = built_planned b l.edit e (and_parts (is_script_line l) (is_built l.edit) good).1 is
-
--- and it keeps the limits
-pub line_limits : (b : Names) (l : ScriptLine) (e : Edit) → IsTrue (can_spell l) → resolve b l.edit ≡ Some e → IsTrue (keeps_limits e)
-line_limits b l e good is = edit_limits b l.edit e (good_edit l (line_spelled l good)) is
-
--- ---- at most one node, one edge, two faces and one place more for each line
+-- ---- at most one node, two edges, two faces, one layer, one feature and one place more for each line
 pub record IsFew (s t : State) (n : ℕ) : Type 0 where
   pub nodes : t.place.drawing.next_ids.node ≤ s.place.drawing.next_ids.node + n
-  pub edges : t.place.drawing.next_ids.edge ≤ s.place.drawing.next_ids.edge + n
+  pub edges : t.place.drawing.next_ids.edge ≤ s.place.drawing.next_ids.edge + 2 * n
   pub faces : t.place.drawing.next_ids.face ≤ s.place.drawing.next_ids.face + 2 * n
+  pub layers : t.place.drawing.next_ids.layer ≤ s.place.drawing.next_ids.layer + n
+  pub features : t.place.drawing.next_ids.feature ≤ s.place.drawing.next_ids.feature + n
   pub places : t.place.front ≤ s.place.front + n
 
-with_little : (S : Drawing) (front : ℕ) (o : Option Edit) → ((e : Edit) → o ≡ Some e → IsTrue (is_planned e)) → IsLittle S (drawing_with S o) front (front_with S front o)
-with_little S front None good = record { nodes = omega arith; edges = omega arith; faces = omega arith; places = omega arith }
-with_little S front (Some e) good = edit_little S front e (good e refl)
+with_little : (S : Drawing) (front : ℕ) (o : Option Edit) → IsLittle S (drawing_with S o) front (front_with S front o)
+with_little S front None = record { nodes = omega arith; edges = omega arith; faces = omega arith; layers = omega arith; features = omega arith; places = omega arith }
+with_little S front (Some e) = edit_little S front e
 
-next_few : (s : State) (l : ScriptLine) → IsTrue (can_spell l) → IsFew s (next s l) 1
-next_few s l good =
-    let few = with_little s.place.drawing s.place.front (edit_at s.place l) (λ e is. line_planned s.place.names l e good is) in
-    record { nodes = few.nodes; edges = few.edges; faces = few.faces; places = few.places }
+next_few : (s : State) (l : ScriptLine) → IsFew s (next s l) 1
+next_few s l =
+    let few = with_little s.place.drawing s.place.front (edit_at s.place l) in
+    record { nodes = few.nodes; edges = few.edges; faces = few.faces; layers = few.layers; features = few.features; places = few.places }
 
-pub next_all_few : (s : State) (ls : List ScriptLine) → IsTrue (list_all can_spell ls) → IsFew s (next_all s ls) (length ls)
-next_all_few s [] good = record { nodes = omega arith; edges = omega arith; faces = omega arith; places = omega arith }
-next_all_few s (l ∷ ls) good =
-    let parts = and_parts (can_spell l) (list_all can_spell ls) good in
-    let one = next_few s l parts.0 in
-    let more = next_all_few (next s l) ls parts.1 in
+pub next_all_few : (s : State) (ls : List ScriptLine) → IsFew s (next_all s ls) (length ls)
+next_all_few s [] = record { nodes = omega arith; edges = omega arith; faces = omega arith; layers = omega arith; features = omega arith; places = omega arith }
+next_all_few s (l ∷ ls) =
+    let one = next_few s l in
+    let more = next_all_few (next s l) ls in
     let nodes = one.nodes in
     let edges = one.edges in
     let faces = one.faces in
+    let layers = one.layers in
+    let features = one.features in
     let places = one.places in
     let nodes' = more.nodes in
     let edges' = more.edges in
     let faces' = more.faces in
+    let layers' = more.layers in
+    let features' = more.features in
     let places' = more.places in
-    record { nodes = omega arith; edges = omega arith; faces = omega arith; places = omega arith }
-
-pub list_all-take : (p : ScriptLine → Bool) (ls : List ScriptLine) (n : ℕ) → IsTrue (list_all p ls) → IsTrue (list_all p (take n ls))
-list_all-take p [] zero h = refl
-list_all-take p [] (suc n) h = refl
-list_all-take p (x ∷ ls) zero h = refl
-list_all-take p (x ∷ ls) (suc n) h = let parts = and_parts (p x) (list_all p ls) h in and_from (p x) (list_all p (take n ls)) parts.0 (list_all-take p ls n parts.1)
+    record { nodes = omega arith; edges = omega arith; faces = omega arith; layers = omega arith; features = omega arith; places = omega arith }
 
 -- ---- a reply that is cut
 pub cuts : (old t : State) (ls : List ScriptLine) (i : ℕ) (l : ScriptLine) (a b c : Option (List ℕ)) → i < length ls → l ≡ get_or ls i l → t ≡ next_all old (take i ls)

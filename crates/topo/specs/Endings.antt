@@ -4,7 +4,7 @@ use Rattle.std.specs.Fmt.{decimal}
 use Rattle.std.specs.Io.KnownBytes.{Appends}
 use Rattle.topo_base.specs.ScriptLines.{ScriptLine}
 use Rattle.topo_base.specs.declared.answer.Answer.{Answer}
-use Rattle.script_reader.specs.Built.{can_spell}
+use Rattle.topo_model.specs.NamedRange.{is_script_line}
 use Rattle.topo_io.specs.Causes.{Rose}
 use Rattle.topo_io.specs.Sinks.{IsFront, AppendsFront}
 use Rattle.topo_model.specs.Script.{IsScript, IsFirstBad}
@@ -106,22 +106,22 @@ pub data Ending (words : List (List ℕ)) (old new : Outside) (result : ℕ) : T
   too_long : IsApply words → IfSome old.source.left (λ bytes. max_source < length bytes) → Says old.sink new.sink (codes "fault long\n") 9 result → Ending words old new result
   not_read : IsApply words → result ≡ 8 → Appends old.sink.written new.sink.written [] → Ending words old new result
   no_script : IsApply words → WasRead (λ bytes. Unit {0}) old.source new.source → result ≡ 8 → Appends old.sink.written new.sink.written [] → Ending words old new result
-  bad_line : IsApply words → (n : ℕ) → WasRead (λ bytes. IsFirstBad can_spell bytes n) old.source new.source → Tells old.sink new.sink (fault_line n) 3 result → Ending words old new result
-  ran : IsApply words → (lines : List ScriptLine) → WasRead (λ bytes. IsScript can_spell bytes lines) old.source new.source → RunsScript lines old.sink new.sink result → Ending words old new result
+  bad_line : IsApply words → (n : ℕ) → WasRead (λ bytes. IsFirstBad is_script_line bytes n) old.source new.source → Tells old.sink new.sink (fault_line n) 3 result → Ending words old new result
+  ran : IsApply words → (lines : List ScriptLine) → WasRead (λ bytes. IsScript is_script_line bytes lines) old.source new.source → RunsScript lines old.sink new.sink result → Ending words old new result
 
 -- ---- what the statuses say
 -- 0 and 1: a good script was run to its end, and no fault rose
 pub record HasRun (words : List (List ℕ)) (old new : Outside) (result : ℕ) : Type 0 where
   pub good : IsApply words
   pub script : List ScriptLine
-  pub read : WasRead (λ bytes. IsScript can_spell bytes script) old.source new.source
+  pub read : WasRead (λ bytes. IsScript is_script_line bytes script) old.source new.source
   pub run : IsWholeRun script old.sink new.sink result
 
 -- 3: the line of this number is the first bad one, and nothing but its fault is written
 pub record HasBadLine (words : List (List ℕ)) (old new : Outside) : Type 0 where
   pub good : IsApply words
   pub number : ℕ
-  pub read : WasRead (λ bytes. IsFirstBad can_spell bytes number) old.source new.source
+  pub read : WasRead (λ bytes. IsFirstBad is_script_line bytes number) old.source new.source
   pub text : Appends old.sink.written new.sink.written (fault_line number)
 
 -- 6 and 8: a front is written of the line of the fault that came, or of what was due for a script that was run so far
@@ -130,5 +130,5 @@ pub data HasFront (words : List (List ℕ)) (old new : Outside) : Type 0 where
   source_front : IsApply words → Rose old.source.faults new.source.faults → AppendsFront old.sink.written new.sink.written (codes "fault source\n") → HasFront words old new
   long_front : IsApply words → IfSome old.source.left (λ bytes. max_source < length bytes) → AppendsFront old.sink.written new.sink.written (codes "fault long\n") → HasFront words old new
   nothing_written : IsApply words → Appends old.sink.written new.sink.written [] → HasFront words old new
-  line_front : IsApply words → (n : ℕ) → WasRead (λ bytes. IsFirstBad can_spell bytes n) old.source new.source → AppendsFront old.sink.written new.sink.written (fault_line n) → HasFront words old new
-  script_front : IsApply words → (lines : List ScriptLine) → WasRead (λ bytes. IsScript can_spell bytes lines) old.source new.source → IsCutRun lines old.sink new.sink → HasFront words old new
+  line_front : IsApply words → (n : ℕ) → WasRead (λ bytes. IsFirstBad is_script_line bytes n) old.source new.source → AppendsFront old.sink.written new.sink.written (fault_line n) → HasFront words old new
+  script_front : IsApply words → (lines : List ScriptLine) → WasRead (λ bytes. IsScript is_script_line bytes lines) old.source new.source → IsCutRun lines old.sink new.sink → HasFront words old new

@@ -63,11 +63,13 @@ reply s l = reply_text (answer_at s.place l)
 abbrev pub replies : State → List ScriptLine → List ℕ
 replies s ls = replies_text (answers_at s.place ls)
 
--- there are ids for some edits more, each of which makes at most one node, one edge and two faces
+-- there are ids for some edits more, each of which makes at most one node, two edges, two faces, one layer and one feature
 pub record HasIds (S : Drawing) (more : ℕ) : Type 0 where
   pub nodes : S.next_ids.node + more < 2 ^ 32
-  pub edges : S.next_ids.edge + more < 2 ^ 32
+  pub edges : S.next_ids.edge + 2 * more < 2 ^ 32
   pub faces : S.next_ids.face + 2 * more < 2 ^ 32
+  pub layers : S.next_ids.layer + more < 2 ^ 32
+  pub features : S.next_ids.feature + more < 2 ^ 32
 
 -- some lines more have ids and places
 pub record HasRoom (s : State) (more : ℕ) : Type 0 where

@@ -1,6 +1,6 @@
 // How one edit is made: an excerpt of the whole drawing, its plan, room, and the row writes.
 ghost use Rattle.std.specs.Prelude.{◌≡◌, ◌+◌, ◌<◌, ◌^◌, IsTrue, IfOk, OnOk, OnErr};
-ghost use Rattle.edit_plan.specs.Ready.{HasDrawing, is_planned};
+ghost use Rattle.edit_plan.specs.Ready.{HasDrawing};
 ghost use Rattle.topo_model.specs.Legal.{keeps_limits};
 ghost use Rattle.topo_model.specs.Replay.{after, answer_of};
 ghost use Rattle.topo_model.specs.Step.{step};
@@ -54,7 +54,6 @@ fn try_counted<L: Ledger>(
     requires drawing { HasDrawing tables.old.rows }
     requires ids { HasIds (drawn tables.old.rows) 1 }
     requires front { front + 1 < 2 ^ 64 }
-    requires planned { IsTrue (is_planned edit) }
     requires limits { IsTrue (keeps_limits edit) }
     ensures answer { IfOk result (λ a. a ≡ answer_of front (step (drawn tables.old.rows) edit)) }
     ensures after { OnOk result (drawn tables.new.rows ≡ after (drawn tables.old.rows) edit) }
@@ -81,7 +80,6 @@ pub fn try_edit(
     requires drawing { HasDrawing tables.old.rows }
     requires ids { HasIds (drawn tables.old.rows) 1 }
     requires front { front + 1 < 2 ^ 64 }
-    requires planned { IsTrue (is_planned edit) }
     requires limits { IsTrue (keeps_limits edit) }
     ensures answer { IfOk result (λ a. a ≡ answer_of front (step (drawn tables.old.rows) edit)) }
     ensures after { OnOk result (drawn tables.new.rows ≡ after (drawn tables.old.rows) edit) }

@@ -1,6 +1,6 @@
 ghost use Rattle.std.specs.Prelude.{◌≡◌, ◌≤◌, ◌^◌, ◌++◌, OnOk, IsTrue, length, codes, if◌then◌else◌};
 ghost use Rattle.std.specs.List.{list_all};
-ghost use Rattle.script_reader.specs.Built.{can_spell};
+ghost use Rattle.topo_model.specs.NamedRange.{is_script_line};
 ghost use Rattle.topo_model.specs.Texts.{tables_text};
 ghost use Rattle.topo.specs.Endings.{Says, Tells, Prints, RunsScript, fault_line};
 
@@ -82,7 +82,7 @@ fn whole_status(all_done: bool) -> u8
 /// Runs a script on a desk with nothing drawn.
 pub fn end_with_script<K: Sink>(alloc: Global, script: Vec<ScriptLine>, sink: &mut K) -> Status
     requires short { length script.items ≤ 2 ^ 24 }
-    requires good { IsTrue (list_all can_spell script.items) }
+    requires good { IsTrue (list_all is_script_line script.items) }
     ensures { RunsScript script.items (record { written = K.written sink.old; faults = K.faults sink.old })
         (record { written = K.written sink.new; faults = K.faults sink.new }) result }
 {

@@ -5,9 +5,12 @@
 #![tactic(auto)]
 
 mod commit;
+mod copies;
 mod end;
 #[cfg(test)]
 mod face_tests;
+#[cfg(test)]
+mod feature_tests;
 mod outside;
 mod run;
 mod solo;

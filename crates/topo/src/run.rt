@@ -1,9 +1,9 @@
 ghost use Rattle.std.specs.Prelude.{◌≡◌, ◌≤◌, ◌<◌, ◌^◌, ◌+◌, ◌⊎◌, ℕ, [], ◌∷◌, take, length, true, IsTrue, IfOk, OnOk, OnErr, IsErrOf, Ok};
 ghost use Rattle.std.specs.Io.KnownBytes.{Appends};
 ghost use Rattle.std.specs.List.{list_all};
-ghost use Rattle.edit_plan.specs.Ready.{HasDrawing, is_planned};
+ghost use Rattle.edit_plan.specs.Ready.{HasDrawing};
 ghost use Rattle.script_reader.specs.Bindings.{names_of};
-ghost use Rattle.script_reader.specs.Built.{can_spell};
+ghost use Rattle.topo_model.specs.NamedRange.{is_script_line};
 ghost use Rattle.topo_io.specs.Causes.{Rose};
 ghost use Rattle.topo_io.specs.Sinks.{AppendsFront};
 ghost use Rattle.topo_model.specs.Bindings.{bound, ids_of, resolve};
@@ -12,11 +12,12 @@ ghost use Rattle.topo_model.specs.Tables.{drawn, tables_of};
 ghost use Rattle.topo.specs.Run.{HasIds, HasRoom, Shows, StopsShort, CutsShort, answered, next, next_all, reply, replies, start, state_of, with_names};
 
 use crate::commit::try_edit;
+use crate::copies::copy_of;
 use edit_words::reply_text;
 use script_reader::{Bindings, LineEdit, ResolveEnd, ScriptLine};
 use std::alloc::Global;
 use std::marker::Model;
-use topo_base::{Answer, Edit, Ids, Memory};
+use topo_base::{Answer, Ids, Memory};
 use topo_io::{Sink, write_all};
 use topo_tables::Tables;
 
@@ -53,40 +54,6 @@ pub enum Stop {
     Fault,
 }
 
-/// The same edit once more, of those that can be planned.
-fn copy_of(alloc: Global, edit: &Edit) -> Result<Edit, Memory>
-    requires { IsTrue (is_planned edit.now) }
-    ensures { IfOk result (λ e. e ≡ edit.now) }
-{
-    match edit {
-        Edit::AddIsoNode { face, geom } => Ok(Edit::AddIsoNode {
-            face: *face,
-            geom: *geom,
-        }),
-        Edit::MoveIsoNode { node, geom } => Ok(Edit::MoveIsoNode {
-            node: *node,
-            geom: *geom,
-        }),
-        Edit::RemoveIsoNode { node } => Ok(Edit::RemoveIsoNode { node: *node }),
-        Edit::AddIsoEdge { start, end, line } => {
-            let (start, end, line) = (*start, *end, line.copy(alloc)?);
-            Ok(Edit::AddIsoEdge { start, end, line })
-        }
-        Edit::RemoveIsoEdge { edge } => Ok(Edit::RemoveIsoEdge { edge: *edge }),
-        Edit::AddEdgeModFace { start, end, line } => {
-            let (start, end, line) = (*start, *end, line.copy(alloc)?);
-            Ok(Edit::AddEdgeModFace { start, end, line })
-        }
-        Edit::AddEdgeNewFaces { start, end, line } => {
-            let (start, end, line) = (*start, *end, line.copy(alloc)?);
-            Ok(Edit::AddEdgeNewFaces { start, end, line })
-        }
-        Edit::RemEdgeModFace { edge } => Ok(Edit::RemEdgeModFace { edge: *edge }),
-        Edit::RemEdgeNewFace { edge } => Ok(Edit::RemEdgeNewFace { edge: *edge }),
-        _ => unreachable!(),
-    }
-}
-
 /// Tries the edit that a line gives, where each name that it uses is bound.
 fn try_line(
     alloc: Global,
@@ -98,7 +65,7 @@ fn try_line(
     requires drawing { HasDrawing tables.old.rows }
     requires ids { HasIds (drawn tables.old.rows) 1 }
     requires front { front + 1 < 2 ^ 64 }
-    requires good { IsTrue (can_spell line.now) }
+    requires good { IsTrue (is_script_line line.now) }
     ensures answer { IfOk result (λ a. a ≡ answer_to (drawn tables.old.rows) front (resolve (names_of names.now) line.now.edit)) }
     ensures after { OnOk result (drawn tables.new.rows
         ≡ drawing_with (drawn tables.old.rows) (resolve (names_of names.now) line.now.edit)) }
@@ -143,7 +110,7 @@ impl Desk {
     /// Tries a line. Its names are still to be bound.
     fn try_one(&mut self, alloc: Global, line: &ScriptLine) -> Result<Answer, Memory>
         requires room { HasRoom (state_of self.old) 1 }
-        requires good { IsTrue (can_spell line.now) }
+        requires good { IsTrue (is_script_line line.now) }
         ensures answer { IfOk result (λ a. a ≡ answer_at (state_of self.old).place line.now) }
         ensures answered { OnOk result (state_of self.new ≡ answered (state_of self.old) line.now) }
         ensures err { OnErr result (self.new ≡ self.old) }
@@ -175,7 +142,7 @@ impl Desk {
         sink: &mut K,
     ) -> Result<Answer, Stop>
         requires room { HasRoom (state_of self.old) 1 }
-        requires good { IsTrue (can_spell line.now) }
+        requires good { IsTrue (is_script_line line.now) }
         ensures ok { OnOk result (Appends (K.written sink.old) (K.written sink.new) (reply (state_of self.old) line.now)) }
         ensures answer { IfOk result (λ a. a ≡ answer_at (state_of self.old).place line.now) }
         ensures answered { OnOk result (state_of self.new ≡ answered (state_of self.old) line.now) }
@@ -207,7 +174,7 @@ impl Desk {
         sink: &mut K,
     ) -> Result<bool, Stop>
         requires room { HasRoom (state_of self.old) 1 }
-        requires good { IsTrue (can_spell line.now) }
+        requires good { IsTrue (is_script_line line.now) }
         ensures ok { OnOk result (Appends (K.written sink.old) (K.written sink.new) (reply (state_of self.old) line.now)) }
         ensures next { result ≡ Ok true → state_of self.new ≡ next (state_of self.old) line.now }
         ensures shows { OnOk result (Shows (state_of self.new) (next (state_of self.old) line.now)) }
@@ -233,7 +200,7 @@ impl Desk {
         sink: &mut K,
     ) -> Result<(), Stop>
         requires room { HasRoom (state_of self.old) (length lines.items) }
-        requires good { IsTrue (list_all can_spell lines.items) }
+        requires good { IsTrue (list_all is_script_line lines.items) }
         ensures ok { OnOk result (Appends (K.written sink.old) (K.written sink.new) (replies (state_of self.old) lines.items)) }
         ensures shows { OnOk result (Shows (state_of self.new) (next_all (state_of self.old) lines.items)) }
         ensures kept { OnOk result (K.faults sink.new ≡ K.faults sink.old) }

@@ -1,7 +1,7 @@
 ghost use Rattle.std.specs.Prelude.{◌≡◌, ◌≢◌, ◌≤◌, ◌<◌, ◌⊎◌, ◌↔◌, ◌^◌, List, ℕ, Some, [], length, map, string_bytes, IsTrue, IfSome, OnSome, codes};
 ghost use Rattle.std.specs.Io.KnownBytes.{Appends};
 ghost use Rattle.topo_base.specs.ScriptLines.{ScriptLine};
-ghost use Rattle.script_reader.specs.Built.{can_spell};
+ghost use Rattle.topo_model.specs.NamedRange.{is_script_line};
 ghost use Rattle.topo_io.specs.Causes.{Rose};
 ghost use Rattle.topo_model.specs.Run.{status_of};
 ghost use Rattle.topo_model.specs.Script.{IsScript, IsFirstBad};
@@ -87,7 +87,7 @@ pub fn solo<S: Source, K: Sink>(
 
     // And where all that is so, the status is 0 or 1, or memory ran out.
     ensures complete { (bytes : List ℕ) (lines : List ScriptLine) → IsApply (map string_bytes words.now) → S.left source.old ≡ Some bytes
-        → IsScript can_spell bytes lines → length bytes ≤ max_source
+        → IsScript is_script_line bytes lines → length bytes ≤ max_source
         → (Rose (S.faults source.old) (S.faults source.new) → ⊥) → (Rose (K.faults sink.old) (K.faults sink.new) → ⊥)
         → (result ≡ status_of (script_answers lines)) ⊎ (result ≡ 8) }
 
@@ -107,7 +107,7 @@ pub fn solo<S: Source, K: Sink>(
           sink = record { written = K.written sink.new; faults = K.faults sink.new };
         }) }
     ensures all_lines { (bytes : List ℕ) (n : ℕ) → IsApply (map string_bytes words.now) → S.left source.old ≡ Some bytes
-        → IsFirstBad can_spell bytes n → length bytes ≤ max_source → (Rose (S.faults source.old) (S.faults source.new) → ⊥)
+        → IsFirstBad is_script_line bytes n → length bytes ≤ max_source → (Rose (S.faults source.old) (S.faults source.new) → ⊥)
         → (result ≡ 3) ⊎ ((result ≡ 6) ⊎ (result ≡ 8)) }
 
     // 5 and 6, only where the source's count of faults rose, and the sink's.

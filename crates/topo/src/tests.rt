@@ -159,6 +159,8 @@ fn bad_lines_are_named(rt: HostRuntime) -> Result<(), Fail> {
         ("removeisoedge\n", "fault line 1\n"),
         ("addedgemodface 1 2 0 0 4\n", "fault line 1\n"),
         ("modedgesplit 1\n", "fault line 1\n"),
+        ("modedgeheal 1\n", "fault line 1\n"),
+        ("newedgeheal 1 -\n", "fault line 1\n"),
     ];
     for (script, due) in rows {
         let mut source = MemSource::plain(alloc, script.as_bytes().to_vec(alloc)?);

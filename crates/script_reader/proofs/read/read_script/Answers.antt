@@ -2,7 +2,7 @@ use Rattle.std.proofs.Common.{◌≡◌, ℕ, List, [], ◌∷◌, ◌++◌, len
 use Rattle.std.proofs.lemmas.List.{nil_from_length}
 use Rattle.topo_base.specs.ScriptLines.{ScriptLine}
 use Rattle.topo_model.specs.Script.{AreLines, edit_lines, lines_of}
-use Rattle.script_reader.specs.Built.{can_spell}
+use Rattle.topo_model.specs.NamedRange.{is_script_line}
 use Rattle.script_reader.specs.Reading.{IsReading}
 use Rattle.script_reader.specs.declared.read.Reading.TheVariants.{Skipped, Edit}
 use Rattle.script_reader.proofs.ScriptSteps.{skipped_more, edit_more, bad_more}
@@ -36,5 +36,5 @@ loop-rest-preserved c =
 pub returns-clause-script : goal.returns-clause-script
 returns-clause-script c =
     let none : length c.loop-rest.rest.now ≡ 0 = search rules in
-    let last = subst (λ (r : List ℕ). (ls : List ScriptLine) → AreLines can_spell (edit_lines (lines_of r)) ls → AreLines can_spell (edit_lines (lines_of c.args.text.now)) (c.loop-rest.lines.items ++ ls)) (nil_from_length _ none) c.loop-rest.invariant.spelled in
-    subst (AreLines can_spell (edit_lines (lines_of c.args.text.now))) (append-nil c.loop-rest.lines.items) (last [] tt)
+    let last = subst (λ (r : List ℕ). (ls : List ScriptLine) → AreLines is_script_line (edit_lines (lines_of r)) ls → AreLines is_script_line (edit_lines (lines_of c.args.text.now)) (c.loop-rest.lines.items ++ ls)) (nil_from_length _ none) c.loop-rest.invariant.spelled in
+    subst (AreLines is_script_line (edit_lines (lines_of c.args.text.now))) (append-nil c.loop-rest.lines.items) (last [] tt)

@@ -1,26 +1,26 @@
 use Rattle.std.proofs.Common.{◌≤◌, ℕ, List, Err, ap, subst, length}
 use Rattle.topo_model.specs.Script.{IsScript, IsFirstBad, lines_of, edit_lines}
 use Rattle.topo_model.proofs.Scripts.{script_spelled}
-use Rattle.script_reader.specs.Built.{can_spell}
+use Rattle.topo_model.specs.NamedRange.{is_script_line}
 use Rattle.topo.specs.Endings.{SinkView, ran, bad_line, max_source}
 use Rattle.topo.proofs.Causes.{whole_at}
 use Rattle.topo.proofs.solo.solo_by_cause.Goals as goal
 
 pub end_with_script-requires-clause-good : goal.end_with_script-requires-clause-good
 end_with_script-requires-clause-good g c =
-    script_spelled can_spell (edit_lines (lines_of c.deref.result.now)) c.in-Ok-read_script.script.items c.in-Ok-read_script.ensures.script
+    script_spelled is_script_line (edit_lines (lines_of c.deref.result.now)) c.in-Ok-read_script.script.items c.in-Ok-read_script.ensures.script
 
 pub returns-in-Ok-read_script : goal.returns-in-Ok-read_script
 returns-in-Ok-read_script g c =
     let good = c.is_apply.ensures.0 c.if-not-is_apply.false in
     let es = c.in-Ok-read_script.script.items in
     let read = c.in-Ok.bytes.items in
-    let spelled = subst (λ (bs : List ℕ). IsScript can_spell bs es) c.deref.ensures.value c.in-Ok-read_script.ensures.script in
+    let spelled = subst (λ (bs : List ℕ). IsScript is_script_line bs es) c.deref.ensures.value c.in-Ok-read_script.ensures.script in
     let old : SinkView = record { written = g.K.Sink.written c.args.sink.now; faults = g.K.Sink.faults c.args.sink.now } in
     let new : SinkView = record { written = g.K.Sink.written c.end_with_script.new.sink; faults = g.K.Sink.faults c.end_with_script.new.sink } in
     ran good es
     (record {
-      told = whole_at (λ bs. IsScript can_spell bs es) _ read c.in-Ok.ensures.whole spelled;
+      told = whole_at (λ bs. IsScript is_script_line bs es) _ read c.in-Ok.ensures.whole spelled;
       short = whole_at (λ bs. length bs ≤ max_source) _ read c.in-Ok.ensures.whole c.in-Ok.ensures.short;
       ended = c.in-Ok.ensures.end;
       calm = c.in-Ok.ensures.kept;
@@ -32,10 +32,10 @@ returns g c =
     let good = c.is_apply.ensures.0 c.if-not-is_apply.false in
     let n = c.in-Err-BadLine.line in
     let read = c.in-Ok.bytes.items in
-    let bad = subst (λ (bs : List ℕ). IsFirstBad can_spell bs n) c.deref.ensures.value (c.in-Err-BadLine.ensures.bad n (ap Err c.in-Err-BadLine.field-0-is)) in
+    let bad = subst (λ (bs : List ℕ). IsFirstBad is_script_line bs n) c.deref.ensures.value (c.in-Err-BadLine.ensures.bad n (ap Err c.in-Err-BadLine.field-0-is)) in
     bad_line good n
     (record {
-      told = whole_at (λ bs. IsFirstBad can_spell bs n) _ read c.in-Ok.ensures.whole bad;
+      told = whole_at (λ bs. IsFirstBad is_script_line bs n) _ read c.in-Ok.ensures.whole bad;
       short = whole_at (λ bs. length bs ≤ max_source) _ read c.in-Ok.ensures.whole c.in-Ok.ensures.short;
       ended = c.in-Ok.ensures.end;
       calm = c.in-Ok.ensures.kept;

@@ -4,13 +4,13 @@ use Rattle.std.specs.List.{list_all}
 use Rattle.std.proofs.lemmas.List.{length-take}
 use Rattle.topo_base.specs.ScriptLines.{ScriptLine}
 use Rattle.topo_io.specs.Sinks.{AppendsFront}
-use Rattle.script_reader.specs.Built.{can_spell}
+use Rattle.topo_model.specs.NamedRange.{is_script_line}
 use Rattle.topo.specs.Run.{HasRoom, Shows, StopsShort, CutsShort, next_all, reply, replies, state_of}
-use Rattle.topo.proofs.Runs.{replies_next, next_all_more, next_all_few, list_all-at, list_all-take, cuts, nothing_of, same_error, shows_at, take_whole}
+use Rattle.topo.proofs.Runs.{replies_next, next_all_more, next_all_few, list_all-at, cuts, nothing_of, same_error, shows_at, take_whole}
 use Rattle.topo.proofs.run.Desk.serve_all.Goals as goal
 
-good_lines : (ls ks : List ScriptLine) → ls ≡ ks → IsTrue (list_all can_spell ks) → IsTrue (list_all can_spell ls)
-good_lines ls ks same good = subst (λ ms. IsTrue (list_all can_spell ms)) (sym same) good
+good_lines : (ls ks : List ScriptLine) → ls ≡ ks → IsTrue (list_all is_script_line ks) → IsTrue (list_all is_script_line ls)
+good_lines ls ks same good = subst (λ ms. IsTrue (list_all is_script_line ms)) (sym same) good
 
 inside_all : (ls ks : List ScriptLine) (n : ℕ) → ls ≡ ks → n < length ks → n < length ls
 inside_all ls ks n same inside = subst (λ ms. n < length ms) (sym same) inside
@@ -18,22 +18,26 @@ inside_all ls ks n same inside = subst (λ ms. n < length ms) (sym same) inside
 pub serve-requires-clause-room : goal.serve-requires-clause-room
 serve-requires-clause-room g c =
     let ls = take c.loop-at.at c.deref-line-items.result.now in
-    let few = next_all_few (state_of c.args.self.now) ls (list_all-take can_spell c.deref-line-items.result.now c.loop-at.at (good_lines c.deref-line-items.result.now c.args.lines.items c.deref-line-items.ensures.value c.requires.good)) in
+    let few = next_all_few (state_of c.args.self.now) ls in
     let count : length ls ≤ c.loop-at.at = omega (arith, length-take c.loop-at.at c.deref-line-items.result.now) in
     let inside = c.loop-at-test.true in
     let same = ap length c.deref-line-items.ensures.value in
-    let room = c.requires.room.ids.nodes in
-    let room' = c.requires.room.ids.edges in
-    let room'' = c.requires.room.ids.faces in
-    let room''' = c.requires.room.places in
+    let node_room = c.requires.room.ids.nodes in
+    let edge_room = c.requires.room.ids.edges in
+    let face_room = c.requires.room.ids.faces in
+    let layer_room = c.requires.room.ids.layers in
+    let feature_room = c.requires.room.ids.features in
+    let place_room = c.requires.room.places in
     let nodes = few.nodes in
     let edges = few.edges in
     let faces = few.faces in
+    let layers = few.layers in
+    let features = few.features in
     let places = few.places in
-    subst (λ x. HasRoom x 1) (sym c.loop-at.invariant.state) (record { ids = record { nodes = omega arith; edges = omega arith; faces = omega arith }; places = omega arith })
+    subst (λ x. HasRoom x 1) (sym c.loop-at.invariant.state) (record { ids = record { nodes = omega arith; edges = omega arith; faces = omega arith; layers = omega arith; features = omega arith }; places = omega arith })
 
 pub serve-requires-clause-good : goal.serve-requires-clause-good
-serve-requires-clause-good g c = list_all-at can_spell c.deref-line-items.result.now c.loop-at.at c.line-item.result (good_lines c.deref-line-items.result.now c.args.lines.items c.deref-line-items.ensures.value c.requires.good) c.loop-at-test.true c.line-item.is
+serve-requires-clause-good g c = list_all-at is_script_line c.deref-line-items.result.now c.loop-at.at c.line-item.result (good_lines c.deref-line-items.result.now c.args.lines.items c.deref-line-items.ensures.value c.requires.good) c.loop-at-test.true c.line-item.is
 
 pub loop-at-preserved : goal.loop-at-preserved
 loop-at-preserved g c =
