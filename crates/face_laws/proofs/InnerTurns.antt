@@ -83,7 +83,7 @@ pub record AtInner (S : Drawing) (h : HalfEdge) (k : ℕ) (s t : Segment) : Type
   pub two : Follows h.points k s t
 
 -- no other step begins there
-inner_starts : (S : Drawing) (h m : HalfEdge) (k : ℕ) (s t r : Segment) → AtInner S h k s t → Contains (half_edges S) m → In r (steps_along m) → r.a ≡ s.b → (r ≡ t) ⊎ (r ≡ back s)
+pub inner_starts : (S : Drawing) (h m : HalfEdge) (k : ℕ) (s t r : Segment) → AtInner S h k s t → Contains (half_edges S) m → In r (steps_along m) → r.a ≡ s.b → (r ≡ t) ⊎ (r ≡ back s)
 inner_starts S h m k s t r at cm i e =
     ⊎_elim
     (λ (far : h.edge_id ≡ m.edge_id → ⊥). absurd (other_edge far))
@@ -120,14 +120,14 @@ inner_starts S h m k s t r at cm i e =
         let q = half_of S.edges m cm in
         let line = line_of S h at.good p in
         let other = line_of S m at.good q in
-        let spot = rational s.b in
-        let on_h = line.on_edge spot (s, (in_contains s (segments_of h.points) (in_place s (segments_of h.points) k at.two.first), end_on s)) in
-        let on_m = other.on_edge spot (r, (in_contains r (segments_of m.points) i, subst (λ (p : Point). IsOn (rational p) r) e (start_on r))) in
-        let (n, (cn, here, ends)) = at.good.plain.meet p.edge q.edge spot p.there q.there (λ same. far (line.id ∙ same ∙ sym other.id)) on_h on_m in
+        let place = rational s.b in
+        let on_h = line.on_edge place (s, (in_contains s (segments_of h.points) (in_place s (segments_of h.points) k at.two.first), end_on s)) in
+        let on_m = other.on_edge place (r, (in_contains r (segments_of m.points) i, subst (λ (p : Point). IsOn (rational p) r) e (start_on r))) in
+        let (n, (cn, here, ends)) = at.good.plain.meet p.edge q.edge place p.there q.there (λ same. far (line.id ∙ same ∙ sym other.id)) on_h on_m in
         between_no_end h.points k s t made at.two
         (⊎_elim
-        (λ (z : SameCoordinates n.geom (first_vertex h.points)). inl (one_end spot s.b (first_vertex h.points) (at_point s.b) (subst (λ (v : Point). IsAt v spot) (one_point n.geom (first_vertex h.points) z) here)))
-        (λ (z : SameCoordinates n.geom (last_vertex h.points)). inr (one_end spot s.b (last_vertex h.points) (at_point s.b) (subst (λ (v : Point). IsAt v spot) (one_point n.geom (last_vertex h.points) z) here)))
+        (λ (z : SameCoordinates n.geom (first_vertex h.points)). inl (one_end place s.b (first_vertex h.points) (at_point s.b) (subst (λ (v : Point). IsAt v place) (one_point n.geom (first_vertex h.points) z) here)))
+        (λ (z : SameCoordinates n.geom (last_vertex h.points)). inr (one_end place s.b (last_vertex h.points) (at_point s.b) (subst (λ (v : Point). IsAt v place) (one_point n.geom (last_vertex h.points) z) here)))
         (line.ends n cn (and_parts (is_end_of n.node_id p.edge) (is_end_of n.node_id q.edge) ends).0))
 
 pub inner_next : (S : Drawing) (h : HalfEdge) (k : ℕ) (s t : Segment) → AtInner S h k s t → Next (steps_of S) s t

@@ -28,7 +28,7 @@ use Rattle.face_laws.proofs.Tying.{MeetAtEnds, tied_from, turned_first, turned_s
 
 -- ---- segments of two edges
 -- a common point of different edges is where lines end
-node_ends : (S : Drawing) (e : Edge) (n : NodeRow) (q : RationalPoint) (r : Segment) → HasPlainLines S → Contains S.edges e → Contains S.nodes n → IsTrue (is_end_of n.node_id e) → IsAt n.geom q →
+pub node_ends : (S : Drawing) (e : Edge) (n : NodeRow) (q : RationalPoint) (r : Segment) → HasPlainLines S → Contains S.edges e → Contains S.nodes n → IsTrue (is_end_of n.node_id e) → IsAt n.geom q →
     In r (segments_of e.geom) → IsOn q r → IsEnd q r
 node_ends S e n q r good ce cn ends at i on =
     let line = forward_line S e good ce in

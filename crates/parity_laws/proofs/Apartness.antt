@@ -1,4 +1,4 @@
--- Two steps with one start and no other common spot leave it in two directions.
+-- Two steps with one start and no other common rational point leave it in two directions.
 use Rattle.std.proofs.Common.{◌≡◌, ◌≢◌, refl, sym, ◌∙◌, ap, subst, arith, ℤ, pos, ◌-ℤ◌, ◌*ℤ◌, ◌<ℤ◌, ◌≤ℤ◌, ◌⊎◌, inl, inr, ⊎_elim, Bool, true, false}
 use Rattle.std.specs.Prelude.{neg_ℤ, int_lt}
 use Rattle.std.proofs.lemmas.Bool.{both_ways}
@@ -197,7 +197,7 @@ one_between a b z nb nz h = by_half (rightward (direction (record { a = a; b = z
         upright m.0 n.0 (inr (over_it z.y a.y m.1, over_it b.y a.y n.1)))
         (order (z.x -ℤ a.x) (pos 0))
 
--- two steps with one start, and no other common spot, are a fork
+-- two steps with one start, and no other common rational point, are a fork
 pub fork_from : (s t : Segment) → t.a ≡ s.a → s.a ≢ s.b → t.a ≢ t.b → ((r : RationalPoint) → IsOn r s → IsOn r t → SamePoint r (rational s.a)) → Fork s t
 fork_from s t e ns nt only = record {
   start = e;

@@ -107,22 +107,26 @@ above_split T d m U h p q same v =
     ∙ sym (same_above (cut d m T) U (λ u. p (whole d m u)) v (cut_rearranged T d m U h))
     ∙ label_above T d m (is_cut T d m U h) p v
 
+-- two labels by faces that agree on the steps
 shell_faces : (U : List Segment) (F G : Segment → ℕ) (f : ℕ) (p : Segment → Bool) → ((u : Segment) → In u U → F u ≡ G u) → IsShellOf U F f p → IsShellOf U G f p
 shell_faces U F G f p same s = record { ring = s.ring; face = sym (same s.ring.step s.ring.there) ∙ s.face; is_left = s.is_left }
 
+pub one_shell_faces : (U : List Segment) (F G : Segment → ℕ) (f : ℕ) → ((u : Segment) → In u U → F u ≡ G u) → OneShell U F f → OneShell U G f
+one_shell_faces U F G f same h = record {
+  p = h.p;
+  shell = shell_faces U F G f h.p same h.shell;
+  only = λ q r a b. h.only q r (shell_faces U G F f q (λ u i. sym (same u i)) a) (shell_faces U G F f r (λ u i. sym (same u i)) b);
+}
+
+pub no_shell_faces : (U : List Segment) (F G : Segment → ℕ) (f : ℕ) → ((u : Segment) → In u U → F u ≡ G u) → NoShell U F f → NoShell U G f
+no_shell_faces U F G f same none p h = none p (shell_faces U G F f p (λ u i. sym (same u i)) h)
+
 pub one_shell_split : (T : List Segment) (d : Segment) (m : Point) (U : List Segment) → IsCutTo T d m U → (F G : Segment → ℕ) (f : ℕ) → ((u : Segment) → In u U → F (whole d m u) ≡ G u) →
     OneShell T F f → OneShell U G f
-one_shell_split T d m U h F G f same s = by_shell (same_one_shell (cut d m T) U (λ u. F (whole d m u)) f (cut_rearranged T d m U h) (one_shell_cut T d m F f (is_cut T d m U h) s))
-  where
-    by_shell : OneShell U (λ u. F (whole d m u)) f → OneShell U G f
-    by_shell s = record {
-      p = s.p;
-      shell = shell_faces U (λ u. F (whole d m u)) G f s.p same s.shell;
-      only = λ q r a b. s.only q r (shell_faces U G (λ u. F (whole d m u)) f q (λ u i. sym (same u i)) a) (shell_faces U G (λ u. F (whole d m u)) f r (λ u i. sym (same u i)) b);
-    }
+one_shell_split T d m U h F G f same s =
+    one_shell_faces U (λ u. F (whole d m u)) G f same (same_one_shell (cut d m T) U (λ u. F (whole d m u)) f (cut_rearranged T d m U h) (one_shell_cut T d m F f (is_cut T d m U h) s))
 
 pub no_shell_split : (T : List Segment) (d : Segment) (m : Point) (U : List Segment) → IsCutTo T d m U → (F G : Segment → ℕ) (f : ℕ) → ((u : Segment) → In u U → F (whole d m u) ≡ G u) →
     NoShell T F f → NoShell U G f
-no_shell_split T d m U h F G f same none p s =
-    same_no_shell (cut d m T) U (λ u. F (whole d m u)) f (cut_rearranged T d m U h) (no_shell_cut T d m F f (is_cut T d m U h) none)
-    p (shell_faces U G (λ u. F (whole d m u)) f p (λ u i. sym (same u i)) s)
+no_shell_split T d m U h F G f same none =
+    no_shell_faces U (λ u. F (whole d m u)) G f same (same_no_shell (cut d m T) U (λ u. F (whole d m u)) f (cut_rearranged T d m U h) (no_shell_cut T d m F f (is_cut T d m U h) none))

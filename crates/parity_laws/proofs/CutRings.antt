@@ -1,149 +1,23 @@
 -- A ring that a line cuts in two.
-use Rattle.std.proofs.Common.{◌≡◌, ◌≢◌, refl, sym, ◌∙◌, ap, subst, ◌⊎◌, inl, inr, ⊎_elim, Bool, true, false, not, ◌&&◌, List, ◌∷◌}
+use Rattle.std.proofs.Common.{◌≡◌, refl, sym, ◌∙◌, ap, ◌⊎◌, inl, inr, ⊎_elim, Bool, true, false, not, List, ◌∷◌}
 use Rattle.std.specs.Prelude.{◌||◌}
 use Rattle.std.proofs.lemmas.Bool.{both_ways, or_cases, or_left, or_right}
 use Rattle.topo_model.specs.Segment.{Segment}
 use Rattle.topo_model.specs.Faces.{xor}
 use Rattle.topo_model.proofs.Crossings.{back}
 use Rattle.parity_laws.specs.Steps.{left}
-use Rattle.parity_laws.specs.Rings.{In, Next, those, Ringwise, OneRing, Corner}
+use Rattle.parity_laws.specs.Rings.{In, Next, those, Ringwise, OneRing}
 use Rattle.parity_laws.proofs.Tests.{bool_same}
 use Rattle.parity_laws.proofs.Splitting.{world, cut_constants}
-use Rattle.parity_laws.specs.Coming.{both_ways_of, with_line, LineComes, Enters, CornerOfBoth}
+use Rattle.parity_laws.specs.Coming.{both_ways_of, with_line, LineComes, Enters}
 use Rattle.parity_laws.specs.Shelling.{IsRingOf}
 use Rattle.parity_laws.proofs.RingAt.{rings_there}
-use Rattle.parity_laws.proofs.Following.{next_same, next_apart}
-use Rattle.parity_laws.proofs.Wedges.{next_within}
-use Rattle.parity_laws.proofs.LastCorner.{last_corner}
-use Rattle.parity_laws.proofs.OnLine.{old_in, way_in, forth_in, back_in, last_in, old_or_way, not_both, ends_apart, way_label, enters_line, among, in_among, not_among}
-use Rattle.parity_laws.proofs.LineCorners.{GoesOver, old_corner, entry_label, leaves_line, old_ringwise, new_ringwise}
+use Rattle.parity_laws.proofs.OnLine.{old_in, way_in, forth_in, back_in, last_in, not_both, way_label, among, in_among, not_among}
+use Rattle.parity_laws.proofs.LineCorners.{entry_label, old_ringwise, new_ringwise}
 use Rattle.parity_laws.proofs.Labels.{those_same}
 use Rattle.parity_laws.proofs.OldRings.{left_with_line}
+use Rattle.parity_laws.proofs.AcrossLine.{entries_same}
 use Rattle.parity_laws.proofs.JoinedRings.{EndRing, end_ring}
-
--- ---- both ends are on one old ring
--- p has the line in one direction alone: then whatever is one for each old ring is one where the line is entered at its two ends
-pub entries_same : (T : List Segment) (first : Segment) (rest : List Segment) (last : Segment) (p R : Segment → Bool) (a b : Segment) → LineComes T first rest last → Ringwise (with_line T (first ∷ rest)) p →
-    p first ≡ true → p (back first) ≡ false → Ringwise T R → In a T → In b T → Next (with_line T (first ∷ rest)) a first → Next (with_line T (first ∷ rest)) b (back last) → R a ≡ R b
-entries_same T first rest last p R a b c rings e f old i j at_first at_last =
-    bool_same (R a) (R b) (λ g. one_way R old g) (λ g. not_false (R a) (λ k. both_ways (R b) (not_true (R b) (one_way (λ t. not (R t)) (λ d n k l next. ap not (old d n k l next)) (ap not k))) g))
-  where
-    not_true : (x : Bool) → not x ≡ true → x ≡ false
-    not_true true k = absurd (both_ways false refl k)
-    not_true false k = refl
-
-    not_false : (x : Bool) → (x ≡ false → ⊥) → x ≡ true
-    not_false true k = refl
-    not_false false k = absurd (k refl)
-
-    one_way : (Q : Segment → Bool) → Ringwise T Q → Q a ≡ true → Q b ≡ true
-    one_way Q hq qa = not_false (Q b) (λ qb. impossible qb)
-      where
-        -- the steps of Q and p, without the line
-        part : Segment → Bool
-        part t = (Q t && p t) && not (among (both_ways_of (first ∷ rest)) t)
-
-        off_line : (t : Segment) → In t T → part t ≡ Q t && p t
-        off_line t k = last_of (Q t && p t) (among (both_ways_of (first ∷ rest)) t) (not_among (both_ways_of (first ∷ rest)) t (λ l. not_both T first rest last c t k l))
-          where
-            last_of : (x y : Bool) → y ≡ false → x && not y ≡ x
-            last_of true y g = ap not g
-            last_of false y g = refl
-
-        on_line : (t : Segment) → In t (both_ways_of (first ∷ rest)) → part t ≡ false
-        on_line t k = last_of (Q t && p t) (among (both_ways_of (first ∷ rest)) t) (in_among (both_ways_of (first ∷ rest)) t k)
-          where
-            last_of : (x y : Bool) → y ≡ true → x && not y ≡ false
-            last_of true y g = ap not g
-            last_of false y g = refl
-
-        first_false : (x y : Bool) → x ≡ false → x && y ≡ false
-        first_false x y g = rw g
-
-        second_false : (x y : Bool) → y ≡ false → x && y ≡ false
-        second_false true y g = g
-        second_false false y g = refl
-
-        there : (s : Segment) → In s T → In s (with_line T (first ∷ rest))
-        there s k = old_in T (first ∷ rest) s k
-
-        way : (s : Segment) → In s (both_ways_of (first ∷ rest)) → In s (with_line T (first ∷ rest))
-        way s k = way_in T (first ∷ rest) s k
-
-        first_way : In first (both_ways_of (first ∷ rest))
-        first_way = forth_in (first ∷ rest) first (inl refl)
-
-        first_back : In (back first) (both_ways_of (first ∷ rest))
-        first_back = back_in (first ∷ rest) first (inl refl)
-
-        last_way : In (back last) (both_ways_of (first ∷ rest))
-        last_way = back_in (first ∷ rest) last (last_in T first rest last c)
-
-        out : (d n : Segment) → Q b ≡ false → In d (both_ways_of (first ∷ rest)) → In n T → Next (with_line T (first ∷ rest)) d n → part n ≡ false
-        out d n qb k l next = by_entry (leaves_line T first rest last c d n k l next)
-          where
-            at_a : Next T a n → part n ≡ false
-            at_a corner =
-                off_line n l ∙ second_false (Q n) (p n)
-                (⊎_elim
-                (λ (g : Next (with_line T (first ∷ rest)) a n). absurd (not_both T first rest last c n l (subst (λ z. In z (both_ways_of (first ∷ rest))) (next_same (with_line T (first ∷ rest)) a first n c.new.plain (way first first_way) (there n l) at_first g) first_way)))
-                (λ (g : GoesOver (with_line T (first ∷ rest)) a n first (back last) ⊎ GoesOver (with_line T (first ∷ rest)) a n (back last) first).
-                ⊎_elim
-                (λ (h : GoesOver (with_line T (first ∷ rest)) a n first (back last)).
-                ⊎_elim
-                (λ (m : Corner (with_line T (first ∷ rest)) a n first). sym (rings (back first) n (way (back first) first_back) (there n l) m.leaves) ∙ f)
-                (λ (m : CornerOfBoth (with_line T (first ∷ rest)) a n first (back last)).
-                absurd (not_both T first rest last c b j (subst (λ z. In z (both_ways_of (first ∷ rest))) (next_apart (with_line T (first ∷ rest)) (back first) b (back last) c.new.plain (way (back first) first_back) (there b j) m.between at_last) first_back)))
-                h)
-                (λ (h : GoesOver (with_line T (first ∷ rest)) a n (back last) first).
-                absurd (ends_apart T first rest last c (next_same (with_line T (first ∷ rest)) a first (back last) c.new.plain (way first first_way) (way (back last) last_way) at_first (enters_of h))))
-                g)
-                (old_corner T first rest last c a n i l corner))
-              where
-                enters_of : GoesOver (with_line T (first ∷ rest)) a n (back last) first → Next (with_line T (first ∷ rest)) a (back last)
-                enters_of h = ⊎_elim (λ (m : Corner (with_line T (first ∷ rest)) a n (back last)). m.enters) (λ (m : CornerOfBoth (with_line T (first ∷ rest)) a n (back last) first). m.enters) h
-
-            by_entry : (m : Segment) × (In m T × Next T m n × Enters (with_line T (first ∷ rest)) first last m) → part n ≡ false
-            by_entry m =
-                ⊎_elim
-                (λ (g : Next (with_line T (first ∷ rest)) m.0 first). at_a (subst (λ z. Next T z n) (next_apart (with_line T (first ∷ rest)) m.0 a first c.new.plain (there m.0 m.1.0) (there a i) g at_first) m.1.1))
-                (λ (g : Next (with_line T (first ∷ rest)) m.0 (back last)).
-                off_line n l ∙ first_false (Q n) (p n) (sym (hq b n j l (subst (λ z. Next T z n) (next_apart (with_line T (first ∷ rest)) m.0 b (back last) c.new.plain (there m.0 m.1.0) (there b j) g at_last) m.1.1)) ∙ qb))
-                m.1.2
-
-        enter : (d n : Segment) → Q b ≡ false → In d T → In n (both_ways_of (first ∷ rest)) → Next (with_line T (first ∷ rest)) d n → d ≢ a → part d ≡ false
-        enter d n qb k l next ne =
-            ⊎_elim
-            (λ (g : n ≡ first). absurd (ne (next_apart (with_line T (first ∷ rest)) d a first c.new.plain (there d k) (there a i) (subst (λ z. Next (with_line T (first ∷ rest)) d z) g next) at_first)))
-            (λ (g : n ≡ back last).
-            off_line d k ∙ first_false (Q d) (p d) (ap Q (next_apart (with_line T (first ∷ rest)) d b (back last) c.new.plain (there d k) (there b j) (subst (λ z. Next (with_line T (first ∷ rest)) d z) g next) at_last) ∙ qb))
-            (enters_line T first rest last c d n k l next.meets)
-
-        same : Q b ≡ false → (d n : Segment) → In d (with_line T (first ∷ rest)) → In n (with_line T (first ∷ rest)) → Next (with_line T (first ∷ rest)) d n → d ≢ a → part d ≡ part n
-        same qb d n k l next ne =
-            ⊎_elim
-            (λ (k' : In d T).
-            ⊎_elim
-            (λ (l' : In n T). off_line d k' ∙ both_same (Q d) (Q n) (p d) (p n) (hq d n k' l' (next_within T (with_line T (first ∷ rest)) d n (old_in T (first ∷ rest)) next)) (rings d n k l next) ∙ sym (off_line n l'))
-            (λ (l' : In n (both_ways_of (first ∷ rest))). enter d n qb k' l' next ne ∙ sym (on_line n l'))
-            (old_or_way T (first ∷ rest) n l))
-            (λ (k' : In d (both_ways_of (first ∷ rest))).
-            ⊎_elim
-            (λ (l' : In n T). on_line d k' ∙ sym (out d n qb k' l' next))
-            (λ (l' : In n (both_ways_of (first ∷ rest))). on_line d k' ∙ sym (on_line n l'))
-            (old_or_way T (first ∷ rest) n l))
-            (old_or_way T (first ∷ rest) d k)
-          where
-            both_same : (x y u v : Bool) → x ≡ y → u ≡ v → x && u ≡ y && v
-            both_same x y u v g h = rw (g, h)
-
-        both_true : (x y : Bool) → x ≡ true → y ≡ true → x && y ≡ true
-        both_true x y g h = rw (g, h)
-
-        impossible : Q b ≡ false → ⊥
-        impossible qb =
-            let at = off_line a i ∙ both_true (Q a) (p a) qa (rings a first (there a i) (way first first_way) at_first ∙ e) in
-            both_ways (part a) (last_corner (with_line T (first ∷ rest)) part a first c.new (there a i) (way first first_way) at_first (same qb) ∙ on_line first first_way) at
 
 -- the old ring on which both ends are; it is empty where the line is entered from itself alone
 pub record LineRing (T T' : List Segment) (first last : Segment) (R : Segment → Bool) : Type 0 where

@@ -29,7 +29,7 @@ ring_links T R d e one i j f g =
     (linked_or_parted T e.b d.b)
 
 -- ---- the line and the way back make an even list that has the line once
-strung_chained : (T : List Segment) (d : Segment) (X : List Segment) (z : Segment) → Strung T d X z → Chained d.b X z.b
+pub strung_chained : (T : List Segment) (d : Segment) (X : List Segment) (z : Segment) → Strung T d X z → Chained d.b X z.b
 strung_chained T d [] z h = ap (λ s. s.b) h
 strung_chained T d (n ∷ X) z h = (h.0, strung_chained T n X z h.2)
 

@@ -98,7 +98,7 @@ between_chain a y m b d h f g =
     f)
     g
 
--- a spot of the way from the start of d to the foot is on d
+-- a rational point of the way from the start of d to the foot is on d
 on_part : (T : List Segment) (v : Point) (d : Segment) (r : RationalPoint) → Foot T v d → IsOn r (seg (larger (width d) d.a) (foot v d)) → IsOn r (larger_segment (width d) d)
 on_part T v d r f on =
     let k = wide d v f.low.isover in
@@ -129,7 +129,7 @@ on_part T v d r f on =
             plain : (X k e A B : ℤ) → X *ℤ ((k *ℤ k) *ℤ A -ℤ (k *ℤ e) *ℤ B) ≡ k *ℤ ((k *ℤ X) *ℤ A -ℤ (e *ℤ X) *ℤ B)
             plain X k e A B = simp multiplied
 
--- such a spot is left of the end of d
+-- such a rational point is left of the end of d
 part_left : (T : List Segment) (v : Point) (d : Segment) (r : RationalPoint) → Foot T v d → IsOn r (seg (larger (width d) d.a) (foot v d)) → r.x <ℤ ((width d *ℤ d.b.x) *ℤ r.d)
 part_left T v d r f on =
     let k = wide d v f.low.isover in
@@ -142,7 +142,7 @@ part_left T v d r f on =
     (λ (q : (((width d *ℤ v.x) *ℤ r.d) ≤ℤ r.x) × (r.x ≤ℤ ((width d *ℤ d.a.x) *ℤ r.d))). let q1 = q.1 in omega (arith, signed))
     on.across
 
--- a step that leaves the end of d has no spot with that way
+-- a step that leaves the end of d has no rational point with that way
 fork_clear : (T : List Segment) (v : Point) (d t : Segment) → Foot T v d → Fork (back d) t → AreApart (larger_segment (width d) t) (seg (larger (width d) d.a) (foot v d))
 fork_clear T v d t f fork r on =
     let k = wide d v f.low.isover in
@@ -154,7 +154,7 @@ fork_clear T v d t f fork r on =
     let a = f.inner in
     let b = f.low.isover.to in
     let at_end : IsOn (rational d.b) t = subst (λ p. IsOn (rational p) t) fork.start (start_on t) in
-    let differ : turn d t ≢ pos 0 → ⊥ = λ n. let same_spot = unique d t q (rational d.b) n (on_s, on_t) (end_on d, at_end) in apart_x r.x d.b.x (width d *ℤ r.d) left same_spot.0 in
+    let differ : turn d t ≢ pos 0 → ⊥ = λ n. let same_place = unique d t q (rational d.b) n (on_s, on_t) (end_on d, at_end) in apart_x r.x d.b.x (width d *ℤ r.d) left same_place.0 in
     let turns : turn d t ≡ pos 0 = zero_by (turn d t) differ in
     let ta : t.a.x ≡ d.b.x = ap (λ (p : Point). p.x) fork.start in
     same_half (direction t) (direction (back d)) false

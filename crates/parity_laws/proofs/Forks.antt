@@ -1,4 +1,4 @@
--- Two steps that leave one point in two directions have no other common spot.
+-- Two steps that leave one point in two directions have no other common rational point.
 use Rattle.std.proofs.Common.{◌≡◌, refl, sym, ◌∙◌, ap, subst, arith, ℤ, pos, ◌-ℤ◌, ◌*ℤ◌, ◌<ℤ◌, ◌≤ℤ◌, inl, inr, ⊎_elim, Bool, true, false, not, ◌&&◌}
 use Rattle.std.specs.Prelude.{neg_ℤ, ◌||◌, int_lt}
 use Rattle.std.proofs.Math.IntN.{*ℤ-zero, zero-*ℤ}
@@ -119,7 +119,7 @@ rays u w x y d r apart =
         (order y (pos 0)))
         (order (pos 0) y)
 
--- the only common spot of a fork is where both begin
+-- the only common rational point of a fork is where both begin
 pub fork_only : (s t : Segment) (r : RationalPoint) → Fork s t → IsOn r s → IsOn r t → SamePoint r (rational s.a)
 fork_only s t r f on_s on_t =
     let on_t' : IsOn r (seg s.a t.b) = subst (λ p. IsOn r (seg p t.b)) f.start on_t in

@@ -1,4 +1,4 @@
--- A drawing in a larger plane, and what each spot has above it.
+-- A drawing in a larger plane, and what each rational point has above it.
 use Rattle.std.proofs.Common.{◌≡◌, ◌≢◌, refl, sym, ◌∙◌, ap, subst, ℕ, ℤ, pos, ◌*ℤ◌, ◌<ℤ◌, ◌⊎◌, inl, inr, ⊎_elim, true, false, List, [], ◌∷◌, map, eqb}
 use Rattle.std.proofs.lemmas.Bool.{ne_eqb}
 use Rattle.topo_model.proofs.Ring.{mul_comm}
@@ -85,25 +85,25 @@ drawn_larger k T h d = record {
 pub within_larger : (k : ℤ) (X T : List Segment) → Within X T → Within (map (larger_segment k) X) (map (larger_segment k) T)
 within_larger k X T w u i = let r = from_larger k u X i in subst (λ z. In z (map (larger_segment k) T)) (sym r.1.1) (in_larger k r.0 T (w r.0 r.1.0))
 
--- ---- spots
-pub above_spot : (c : ℤ) (X : List Segment) (q : RationalPoint) → pos 0 <ℤ c → above (map (larger_segment (q.d *ℤ c)) X) (times_point q c) ≡ above_at X q
-above_spot c [] q h = refl
-above_spot c (t ∷ X) q h = cc (crosses_larger c h t q, above_spot c X q h)
+-- ---- rational points
+pub above_rational : (c : ℤ) (X : List Segment) (q : RationalPoint) → pos 0 <ℤ c → above (map (larger_segment (q.d *ℤ c)) X) (times_point q c) ≡ above_at X q
+above_rational c [] q h = refl
+above_rational c (t ∷ X) q h = cc (crosses_larger c h t q, above_rational c X q h)
 
 one_positive : pos 0 <ℤ pos 1
 one_positive = record { lt = tt }
 
--- nothing is above the spot, or some step has on its left what the spot has above it
-abbrev pub SpotView : List Segment → RationalPoint → Type 0
-SpotView T q =
+-- nothing is above the rational point, or some step has on its left what the rational point has above it
+abbrev pub RationalView : List Segment → RationalPoint → Type 0
+RationalView T q =
     ((X : List Segment) → Even X → Within X T → above_at X q ≡ false)
     ⊎ ((e : Segment) × (In e T × ((X : List Segment) → Even X → Within X T → left X e ≡ above_at X q)))
 
-pub spot_view : (T : List Segment) (q : RationalPoint) → Drawn T → SpotView T q
-spot_view T q drawn =
+pub rational_view : (T : List Segment) (q : RationalPoint) → Drawn T → RationalView T q
+rational_view T q drawn =
     ⊎_elim
     (λ (h : (X : List Segment) → Even X → Within X (map (larger_segment (q.d *ℤ pos 1)) T) → above X (times_point q (pos 1)) ≡ false).
-    inl (λ X even w. sym (above_spot (pos 1) X q one_positive) ∙ h (map (larger_segment (q.d *ℤ pos 1)) X) (even_larger (q.d *ℤ pos 1) X even) (within_larger (q.d *ℤ pos 1) X T w)))
+    inl (λ X even w. sym (above_rational (pos 1) X q one_positive) ∙ h (map (larger_segment (q.d *ℤ pos 1)) X) (even_larger (q.d *ℤ pos 1) X even) (within_larger (q.d *ℤ pos 1) X T w)))
     (λ (h : (e : Segment) × (In e (map (larger_segment (q.d *ℤ pos 1)) T) × ((X : List Segment) → Even X → Within X (map (larger_segment (q.d *ℤ pos 1)) T) → left X e ≡ above X (times_point q (pos 1))))).
     let r = from_larger (q.d *ℤ pos 1) h.0 T h.1.0 in
     inr (
@@ -113,7 +113,7 @@ spot_view T q drawn =
         λ X even w.
             sym (left_larger (q.d *ℤ pos 1) X r.0 k) ∙ ap (left (map (larger_segment (q.d *ℤ pos 1)) X)) (sym r.1.1)
             ∙ h.1.1 (map (larger_segment (q.d *ℤ pos 1)) X) (even_larger (q.d *ℤ pos 1) X even) (within_larger (q.d *ℤ pos 1) X T w)
-            ∙ above_spot (pos 1) X q one_positive,
+            ∙ above_rational (pos 1) X q one_positive,
       ),
     ))
     (point_view (map (larger_segment (q.d *ℤ pos 1)) T) (times_point q (pos 1)) (drawn_larger (q.d *ℤ pos 1) T k drawn))
@@ -121,7 +121,7 @@ spot_view T q drawn =
     k : pos 0 <ℤ (q.d *ℤ pos 1)
     k = mul_positive q.d (pos 1) q.whole one_positive
 
--- by parity each spot is in one face: g, or 0 where no other has it
+-- by parity each rational point is in one face: g, or 0 where no other has it
 pub one_face_at : (T : List Segment) (F : Segment → ℕ) (q : RationalPoint) → Drawn T → ((f : ℕ) → f ≢ 0 → Ringwise T (of_face F f)) → ((f : ℕ) → f ≢ 0 → Sided T (of_face F f)) →
     (g : ℕ) × ((f : ℕ) → f ≢ 0 → above_at (those (of_face F f) T) q ≡ eqb g f)
 one_face_at T F q drawn rings sided =
@@ -129,17 +129,17 @@ one_face_at T F q drawn rings sided =
     (λ (h : (X : List Segment) → Even X → Within X T → above_at X q ≡ false). (0, λ f n. h (those (of_face F f) T) (even f n) (those_within (of_face F f) T) ∙ sym (ne_eqb 0 f (λ e. n (sym e)))))
     (λ (h : (e : Segment) × (In e T × ((X : List Segment) → Even X → Within X T → left X e ≡ above_at X q))).
     (F h.0, λ f n. sym (h.1.1 (those (of_face F f) T) (even f n) (those_within (of_face F f) T)) ∙ sided f n h.0 h.1.0))
-    (spot_view T q drawn)
+    (rational_view T q drawn)
   where
     even : (f : ℕ) → f ≢ 0 → Even (those (of_face F f) T)
     even f n = (world T (of_face F f) drawn (rings f n)).rings.even
 
--- ---- along a way between two spots that meets no step
+-- ---- along a way between two rational points that meets no step
 pub path_at : (p q : RationalPoint) (X : List Segment) → Even X → Each (λ t. (r : RationalPoint) → IsOn r t → IsOn (larger_spot (p.d *ℤ q.d) r) (way p q) → ⊥) X → above_at X p ≡ above_at X q
 path_at p q X even clear =
     let h = mul_positive p.d q.d p.whole q.whole in
-    sym (above_spot q.d X p q.whole)
+    sym (above_rational q.d X p q.whole)
     ∙ path_stays (way p q) (map (larger_segment (p.d *ℤ q.d)) X) (even_larger (p.d *ℤ q.d) X even)
     (each_larger (p.d *ℤ q.d) (λ t. (r : RationalPoint) → IsOn r t → IsOn (larger_spot (p.d *ℤ q.d) r) (way p q) → ⊥) (λ t. AreApart t (way p q)) (λ t c. clear_larger (p.d *ℤ q.d) h t (way p q) c) X clear)
     ∙ ap (λ k. above (map (larger_segment k) X) (times_point q p.d)) (mul_comm p.d q.d)
-    ∙ above_spot p.d X q p.whole
+    ∙ above_rational p.d X q p.whole

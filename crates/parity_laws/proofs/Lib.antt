@@ -27,7 +27,6 @@ pub mod Forks
 pub mod Nearby
 pub mod Nearer
 pub mod Adding
-pub mod Inserting
 pub mod Apartness
 pub mod Rearranging
 pub mod Labels
@@ -39,7 +38,6 @@ pub mod OtherShells
 pub mod BesideParts
 pub mod PointParts
 pub mod Wedges
-pub mod LastCorner
 pub mod RingAt
 pub mod OnLine
 pub mod LineFaces
@@ -56,3 +54,16 @@ pub mod CutNext
 pub mod CutSides
 pub mod CutShells
 pub mod CutList
+pub mod AcrossLine
+pub mod LineGone
+pub mod LineGoneShells
+pub mod JoinedFaces
+pub mod JoinedSides
+pub mod JoinedShells
+pub mod LineEnds
+pub mod OneFace
+pub mod PartedRings
+pub mod PartedShells
+pub mod LineGoes
+pub mod LineTaken
+pub mod ClosingShells

@@ -2,7 +2,7 @@
 use Rattle.std.proofs.Common.{◌≡◌, ◌≢◌, refl, sym, ◌∙◌, ap, subst, ◌⊎◌, inl, inr, ⊎_elim, Bool, List, ◌∷◌}
 use Rattle.topo_model.specs.Segment.{Segment}
 use Rattle.topo_model.proofs.Crossings.{back}
-use Rattle.parity_laws.specs.Rings.{In, Next, Ringwise, Corner, Inserted}
+use Rattle.parity_laws.specs.Rings.{In, Next, Ringwise, Corner}
 use Rattle.parity_laws.specs.Coming.{both_ways_of, with_line, LineComes, Enters, CornerOfBoth}
 use Rattle.parity_laws.proofs.Following.{follows, next_same, next_apart}
 use Rattle.parity_laws.proofs.Wedges.{next_within, next_over, next_over_two, before_it}
@@ -95,45 +95,6 @@ old_corner T first rest last c d n i j next = by_next (follows (with_line T (fir
         (λ (f : h.0 ≡ back last). inr (inr (goes_over T first rest last c d n (back last) first i j next last_way first_way (λ g. ends_apart T first rest last c (sym g)) other_ends (subst (λ z. Next (with_line T (first ∷ rest)) d z) f h.1.1))))
         (ends h.0 l h.1.1.meets))
         (old_or_way T (first ∷ rest) h.0 h.1.0)
-
--- where neither end of the line leads to the other, no corner goes over both
-pub inserted : (T : List Segment) (first : Segment) (rest : List Segment) (last : Segment) → LineComes T first rest last →
-    (Next (with_line T (first ∷ rest)) (back first) (back last) → ⊥) → (Next (with_line T (first ∷ rest)) last first → ⊥) → Inserted T (with_line T (first ∷ rest)) first last
-inserted T first rest last c not_on not_round = record {
-  old = old_in T (first ∷ rest);
-  first_there = way_in T (first ∷ rest) first first_way;
-  last_there = way_in T (first ∷ rest) last (forth_in (first ∷ rest) last (last_in T first rest last c));
-  first_back = way_in T (first ∷ rest) (back first) (way_turned (first ∷ rest) first first_way);
-  last_back = way_in T (first ∷ rest) (back last) (back_in (first ∷ rest) last (last_in T first rest last c));
-  corners = λ d n i j next. by_corner d n (old_corner T first rest last c d n i j next);
-}
-  where
-    first_way : In first (both_ways_of (first ∷ rest))
-    first_way = forth_in (first ∷ rest) first (inl refl)
-
-    by_corner : (d n : Segment) → Next (with_line T (first ∷ rest)) d n ⊎ (GoesOver (with_line T (first ∷ rest)) d n first (back last) ⊎ GoesOver (with_line T (first ∷ rest)) d n (back last) first) →
-        Next (with_line T (first ∷ rest)) d n ⊎ (Corner (with_line T (first ∷ rest)) d n first ⊎ Corner (with_line T (first ∷ rest)) d n (back last))
-    by_corner d n h =
-        ⊎_elim
-        (λ (k : Next (with_line T (first ∷ rest)) d n). inl k)
-        (λ (g : GoesOver (with_line T (first ∷ rest)) d n first (back last) ⊎ GoesOver (with_line T (first ∷ rest)) d n (back last) first).
-        ⊎_elim
-        (λ (k : GoesOver (with_line T (first ∷ rest)) d n first (back last)).
-        ⊎_elim
-        (λ (m : Corner (with_line T (first ∷ rest)) d n first). inr (inl m))
-        (λ (m : CornerOfBoth (with_line T (first ∷ rest)) d n first (back last)). absurd (not_on m.between))
-        k)
-        (λ (k : GoesOver (with_line T (first ∷ rest)) d n (back last) first).
-        ⊎_elim
-        (λ (m : Corner (with_line T (first ∷ rest)) d n (back last)). inr (inr m))
-        (λ (m : CornerOfBoth (with_line T (first ∷ rest)) d n (back last) first). absurd (not_round m.between))
-        k)
-        g)
-        h
-
--- so it is where the line's ends differ
-pub inserted_open : (T : List Segment) (first : Segment) (rest : List Segment) (last : Segment) → LineComes T first rest last → first.a ≢ last.b → Inserted T (with_line T (first ∷ rest)) first last
-inserted_open T first rest last c open_ends = inserted T first rest last c (λ k. open_ends (sym k.meets)) (λ k. open_ends k.meets)
 
 -- what a corner that doesn't stay does: it enters the line, and comes out of it
 pub record Passes (T : List Segment) (first : Segment) (rest : List Segment) (last : Segment) (d n : Segment) : Type 0 where

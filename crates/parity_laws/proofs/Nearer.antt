@@ -1,4 +1,4 @@
--- The same where both points are spots: one that sees a step has above it what the step has on its left.
+-- The same where both points are rational points: one that sees a step has above it what the step has on its left.
 use Rattle.std.proofs.Common.{◌≡◌, ◌≢◌, refl, sym, ◌∙◌, ap, subst, arith, ℤ, pos, ◌-ℤ◌, ◌*ℤ◌, ◌<ℤ◌, ◌≤ℤ◌, inl, inr, ⊎_elim, List, map}
 use Rattle.std.proofs.Math.IntN.{*ℤ-zero}
 use Rattle.topo_model.proofs.Diff.{diff-same}
@@ -20,7 +20,7 @@ use Rattle.parity_laws.specs.Rings.{In, Within, Drawn, SeesLeft, SeesLeftAt}
 use Rattle.parity_laws.specs.Cuts.{Inner}
 use Rattle.parity_laws.proofs.Across.{start_on, end_on}
 use Rattle.parity_laws.proofs.Scaling.{left_larger, even_larger}
-use Rattle.parity_laws.proofs.Larger.{drawn_larger, in_larger, from_larger, within_larger, above_spot}
+use Rattle.parity_laws.proofs.Larger.{drawn_larger, in_larger, from_larger, within_larger, above_rational}
 use Rattle.parity_laws.proofs.Nearby.{near_left}
 
 le_same : (a a' b b' : ℤ) → a ≡ a' → b ≡ b' → a ≤ℤ b → a' ≤ℤ b'
@@ -56,7 +56,7 @@ on_same t p q e on = record {
         let h = simp multiplied at (ap (λ z. uy *ℤ z) e) in
         simp multiplied (omega (arith, signed))
 
--- a spot in a larger plane
+-- a rational point in a larger plane
 area_times : (a b : Point) (x y d c : ℤ) →
     ((d *ℤ c) *ℤ b.x -ℤ (d *ℤ c) *ℤ a.x) *ℤ (y *ℤ c -ℤ (d *ℤ c) *ℤ a.y) -ℤ ((d *ℤ c) *ℤ b.y -ℤ (d *ℤ c) *ℤ a.y) *ℤ (x *ℤ c -ℤ (d *ℤ c) *ℤ a.x)
     ≡ ((d *ℤ c) *ℤ c) *ℤ ((b.x -ℤ a.x) *ℤ (y -ℤ a.y *ℤ d) -ℤ (b.y -ℤ a.y) *ℤ (x -ℤ a.x *ℤ d))
@@ -94,7 +94,7 @@ inner_larger c d m h on na nb = record {
 same_turned_round : (p q : RationalPoint) → SamePoint p q → SamePoint q p
 same_turned_round p q e = (sym e.0, sym e.1)
 
--- the spot in the larger plane, back in the plane
+-- the rational point in the larger plane, back in the plane
 as_it_was : (c k : ℤ) (h : pos 0 <ℤ k) (m : RationalPoint) → k ≡ m.d *ℤ c → SamePoint (smaller_spot k h (rational (times_point m c))) m
 as_it_was c k h m e = (one m.x, one m.y)
   where
@@ -145,4 +145,4 @@ near_left_at T X d m q drawn s even w =
     sym (left_larger (m.d *ℤ q.d) X d (mul_positive m.d q.d m.whole q.whole))
     ∙ near_left (map (larger_segment (m.d *ℤ q.d)) T) (map (larger_segment (m.d *ℤ q.d)) X) (larger_segment (m.d *ℤ q.d) d) (times_point m q.d) (times_point q m.d) (sees_larger T d m q drawn s) (even_larger (m.d *ℤ q.d) X even) (within_larger (m.d *ℤ q.d) X T w)
     ∙ ap (λ k. above (map (larger_segment k) X) (times_point q m.d)) (mul_comm m.d q.d)
-    ∙ above_spot m.d X q m.whole
+    ∙ above_rational m.d X q m.whole

@@ -30,7 +30,7 @@ odd_walked f (s ∷ L) same = odd_append f (walked_back L) (back s ∷ []) ∙ l
     last : (a b c d : Bool) → a ≡ b → c ≡ d → xor a (xor c false) ≡ xor d b
     last a b c d e g = rw (e, g, xor_none d) (xor_comm b d)
 
-odd_both_ways : (f : Segment → Bool) (X L : List Segment) → ((s : Segment) → f (back s) ≡ f s) → odd f (X ++ both_ways_of L) ≡ odd f X
+pub odd_both_ways : (f : Segment → Bool) (X L : List Segment) → ((s : Segment) → f (back s) ≡ f s) → odd f (X ++ both_ways_of L) ≡ odd f X
 odd_both_ways f X L same = odd_append f X (both_ways_of L) ∙ last (odd f X) (odd f (both_ways_of L)) (odd f L) (odd f (walked_back L)) (odd_append f L (walked_back L)) (odd_walked f L same)
   where
     last : (x w l b : Bool) → w ≡ xor l b → b ≡ l → xor x w ≡ x

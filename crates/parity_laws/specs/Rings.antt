@@ -117,12 +117,3 @@ pub record SeesLeftAt (T : List Segment) (d : Segment) (m q : RationalPoint) : T
 pub record Corner (T' : List Segment) (d n e : Segment) : Type 0 where
   pub enters : Next T' d e
   pub leaves : Next T' (back e) n
-
--- T' is T with a line from the step first to the step last; each corner of T stays, or takes an end of the line
-pub record Inserted (T T' : List Segment) (first last : Segment) : Type 0 where
-  pub old : Within T T'
-  pub first_there : In first T'
-  pub last_there : In last T'
-  pub first_back : In (back first) T'
-  pub last_back : In (back last) T'
-  pub corners : (d n : Segment) → In d T → In n T → Next T d n → Next T' d n ⊎ (Corner T' d n first ⊎ Corner T' d n (back last))

@@ -63,6 +63,6 @@ times X s = odd (twin s) X
 abbrev pub left : List Segment → Segment → Bool
 left X s = xor (above X s.a) (turned X s.a (direction s))
 
--- the parity of the steps above a spot
+-- the parity of the steps above a rational point
 abbrev pub above_at : List Segment → RationalPoint → Bool
 above_at X q = odd (λ t. crosses_at t q) X

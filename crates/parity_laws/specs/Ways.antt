@@ -27,7 +27,7 @@ pub record Fork (s t : Segment) : Type 0 where
 abbrev pub Meets : Segment → Segment → Type 0
 Meets s t = ((t.a ≡ s.a) × (t.b ≡ s.b)) ⊎ (Fork s t ⊎ Fork (back s) t)
 
--- s and t are one step, in any direction, or have no common spot but a common end
+-- s and t are one step, in any direction, or have no common rational point but a common end
 abbrev pub Tied : Segment → Segment → Type 0
 Tied s t = AreApart t s ⊎ (Meets s t ⊎ Meets s (back t))
 

@@ -102,14 +102,14 @@ pub fn highest_ring_is_shell()
 {}
 
 /// Where each face but 0 is left of its steps, each point, whole or not, is in one face by parity.
-pub fn spot_in_one_face()
+pub fn rational_point_in_one_face()
     ensures { (T : List Segment) (F : Segment → ℕ) (q : RationalPoint) → Drawn T
         → ((f : ℕ) → f ≢ 0 → Ringwise T (of_face F f)) → ((f : ℕ) → f ≢ 0 → Sided T (of_face F f))
         → (g : ℕ) × ((f : ℕ) → f ≢ 0 → above_at (those (of_face F f) T) q ≡ eqb g f) }
 {}
 
 /// The parity of an even list of steps stays along a way between two rational points that meets none of them.
-pub fn parity_stays_at_spots()
+pub fn parity_stays_at_rational_points()
     ensures { (p q : RationalPoint) (X : List Segment) → Even X
         → Each (λ t. (r : RationalPoint) → IsOn r t → IsOn (larger_spot (p.d *ℤ q.d) r) (way p q) → ⊥) X
         → above_at X p ≡ above_at X q }
@@ -117,7 +117,7 @@ pub fn parity_stays_at_spots()
 
 /// A rational point that sees a step from its left, with nothing between, has above it what the step has on
 /// its left.
-pub fn near_spot_sees_left()
+pub fn near_point_sees_left()
     ensures { (T : List Segment) (X : List Segment) (d : Segment) (m q : RationalPoint)
         → Drawn T → SeesLeftAt T d m q → Even X → Within X T → left X d ≡ above_at X q }
 {}

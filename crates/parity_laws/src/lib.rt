@@ -12,6 +12,7 @@ mod laws;
 
 pub use laws::{
     cut_leaves_parity, each_step_has_one_ring, face_divided, faces_joined, highest_ring_is_shell,
-    holes_share_no_vertex, lines_are_even, near_spot_sees_left, parity_changes, parity_stays,
-    parity_stays_at_spots, ring_has_one_side, shell_by_parity, spot_in_one_face, view_upward,
+    holes_share_no_vertex, lines_are_even, near_point_sees_left, parity_changes, parity_stays,
+    parity_stays_at_rational_points, rational_point_in_one_face, ring_has_one_side,
+    shell_by_parity, view_upward,
 };

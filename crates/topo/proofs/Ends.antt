@@ -15,7 +15,7 @@ use Rattle.topo_model.specs.NamedRange.{is_script_line}
 use Rattle.topo_model.specs.Texts.{reply_text, replies_text, tables_text}
 use Rattle.topo_model.specs.ScriptRun.{Place, beginning, answer_at, script_answers, AreScriptAnswers, due}
 use Rattle.topo_model.proofs.ScriptRunning.{front_answers, short_answers, front_replayed, short_replayed, scripts_right}
-use Rattle.topo.proofs.Referenced.{referenced_run}
+use Rattle.topo.proofs.Referenced.{referenced_run, subdivision_run}
 use Rattle.topo.specs.Run.{State, start, next_all, Shows, reply, replies, StopsShort, CutsShort}
 use Rattle.topo.specs.Endings.{SinkView, Prints, printed, print_cut, IsCutBy, all_but_last, RunsScript, ran_whole, ran_cut}
 use Rattle.topo.proofs.Runs.{next_all_place, next_all_done, answers-append, replies-append}
@@ -64,6 +64,7 @@ runs_whole ls old mid new status result good text same stat (printed is rows cal
   text = subst (Appends old.written new.written) (sym (due_all ls)) (appended_more old.written mid.written new.written _ _ text rows);
   right = scripts_right ls (script_answers ls) good (subst (λ ks. AreScriptAnswers ls (script_answers ks)) (take-length ls) (front_answers beginning ls (length ls)));
   referenced = referenced_run ls (script_answers ls) (scripts_right ls (script_answers ls) good (subst (λ ks. AreScriptAnswers ls (script_answers ks)) (take-length ls) (front_answers beginning ls (length ls))));
+  subdivision = subdivision_run ls (script_answers ls) (scripts_right ls (script_answers ls) good (subst (λ ks. AreScriptAnswers ls (script_answers ks)) (take-length ls) (front_answers beginning ls (length ls))));
   calm = calm ∙ same;
 })
 runs_whole ls old mid new status result good text same stat (print_cut by rows) =
@@ -73,6 +74,7 @@ runs_whole ls old mid new status result good text same stat (print_cut by rows) 
       answers = answered;
       right = scripts_right ls (script_answers ls) good answered;
       referenced = referenced_run ls (script_answers ls) (scripts_right ls (script_answers ls) good answered);
+      subdivision = subdivision_run ls (script_answers ls) (scripts_right ls (script_answers ls) good answered);
       text = replies start ls ++ rows.front;
       due_front = (rows.begins.0, append_assoc (replies start ls) rows.front rows.begins.0 ∙ ap (λ l. replies start ls ++ l) rows.begins.1 ∙ sym (due_all ls));
       whole_lines = longer_front _ _ rows.front (but_last_front (script_answers ls));
@@ -99,6 +101,7 @@ runs_short ls old mid new n result good inside text same ended =
       answers = answered;
       right = scripts_right ls given good answered;
       referenced = referenced_run ls given (scripts_right ls given good answered);
+      subdivision = subdivision_run ls given (scripts_right ls given good answered);
       text = before ++ front;
       due_front = (rest, append_assoc before front rest ∙ ap (λ l. before ++ l) part.1.begins.1 ∙ sym (append_assoc before (codes "memory\n") rows) ∙ sym (due_short ls n inside));
       whole_lines = (front, ap (λ (given : List Answer). replies_text given ++ front) (all_but_last-push (script_answers (take n ls)) Memory));
@@ -127,6 +130,7 @@ runs_cut ls old new result good cut by =
       answers = answered;
       right = scripts_right ls given good answered;
       referenced = referenced_run ls given (scripts_right ls given good answered);
+      subdivision = subdivision_run ls given (scripts_right ls given good answered);
       text = before ++ cut.front;
       due_front = (rest ++ rows, whole ∙ sym (due_front ls (n + 1)));
       whole_lines = (cut.front, ap (λ (given : List Answer). replies_text given ++ cut.front) (ap all_but_last last ∙ all_but_last-push (script_answers (take n ls)) _));

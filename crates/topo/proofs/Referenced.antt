@@ -1,4 +1,4 @@
--- The rings of the drawings of a run.
+-- The drawings of a run: their references are known, and they are planar subdivisions.
 use Rattle.std.proofs.Common.{ℕ, zero, suc, List, [], ◌∷◌, ◌&&◌, take, is_ok, IsTrue, refl}
 use Rattle.std.specs.List.{list_all}
 use Rattle.std.proofs.lemmas.Bool.{and_parts, and_from}
@@ -7,12 +7,13 @@ use Rattle.topo_base.specs.declared.answer.Answer.{Answer}
 use Rattle.topo_base.specs.declared.edit.Entry.{Entry}
 use Rattle.topo_model.specs.Drawing.{Drawing, nothing_drawn}
 use Rattle.topo_model.specs.Legal.{is_editor, is_entry, keeps_limits}
-use Rattle.topo_model.specs.Replay.{after, edits_of}
+use Rattle.topo_model.specs.Replay.{after, edits_of, replay}
 use Rattle.topo_model.specs.Run.{is_history}
 use Rattle.topo_model.specs.ScriptRun.{script_history, IsRightScript}
 use Rattle.topo_model.specs.Step.{step}
 use Rattle.reference_laws.proofs.ReferencesStaying.{references_stay}
-use Rattle.topo.specs.Endings.{IsReferencedRun}
+use Rattle.subdivision_laws.proofs.SubdivisionsStaying.{subdivisions_stay}
+use Rattle.topo.specs.Endings.{IsReferencedRun, IsSubdivisionRun}
 
 -- the edits of a legal history keep the limits, and so do those of a front of it
 front_keeps : (S : Drawing) (xs : List Entry) (n : ℕ) → IsTrue (is_history S xs) → IsTrue (list_all keeps_limits (edits_of (take n xs)))
@@ -26,3 +27,8 @@ front_keeps S (x ∷ xs) (suc n) h =
 
 pub referenced_run : (lines : List ScriptLine) (given : List Answer) → IsRightScript lines given → IsReferencedRun lines given
 referenced_run lines given right n = references_stay.all_edits (edits_of (take n (script_history lines given))) (front_keeps nothing_drawn (script_history lines given) n right.legal)
+
+pub subdivision_run : (lines : List ScriptLine) (given : List Answer) → IsRightScript lines given → IsSubdivisionRun lines given
+subdivision_run lines given right n =
+    let front = take n (script_history lines given) in
+    subdivisions_stay.subdivision (replay front) (subdivisions_stay.all_edits (edits_of front) (front_keeps nothing_drawn (script_history lines given) n right.legal))

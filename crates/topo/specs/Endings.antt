@@ -12,6 +12,7 @@ use Rattle.topo_model.specs.Texts.{replies_text}
 use Rattle.topo_model.specs.Run.{status_of}
 use Rattle.topo_model.specs.ScriptRun.{script_answers, script_history, AreScriptAnswers, due, IsRightScript}
 use Rattle.topo_model.specs.Replay.{replay}
+use Rattle.topo_model.specs.Subdivision.{IsSubdivision}
 use Rattle.reference_laws.specs.Referenced.{IsReferenced}
 
 -- what a source shows, what a sink shows, and both
@@ -76,12 +77,17 @@ all_but_last (a ∷ b ∷ given) = a ∷ all_but_last (b ∷ given)
 abbrev pub IsReferencedRun : List ScriptLine → List Answer → Type 0
 IsReferencedRun lines given = (n : ℕ) → IsReferenced (replay (take n (script_history lines given)))
 
+-- after each entry of the history the drawing is a planar subdivision
+abbrev pub IsSubdivisionRun : List ScriptLine → List Answer → Type 0
+IsSubdivisionRun lines given = (n : ℕ) → IsSubdivision (replay (take n (script_history lines given)))
+
 -- the script was run to its end, and all that is due is written
 pub record IsWholeRun (lines : List ScriptLine) (old new : SinkView) (result : ℕ) : Type 0 where
   pub status : result ≡ status_of (script_answers lines)
   pub text : Appends old.written new.written (due lines (script_answers lines))
   pub right : IsRightScript lines (script_answers lines)
   pub referenced : IsReferencedRun lines (script_answers lines)
+  pub subdivision : IsSubdivisionRun lines (script_answers lines)
   pub calm : new.faults ≡ old.faults
 
 -- the run stopped: what is written is a front of what is due for the answers given, with the lines of all of these but the last whole
@@ -90,6 +96,7 @@ pub record IsCutRun (lines : List ScriptLine) (old new : SinkView) : Type 0 wher
   pub answers : AreScriptAnswers lines given
   pub right : IsRightScript lines given
   pub referenced : IsReferencedRun lines given
+  pub subdivision : IsSubdivisionRun lines given
   pub text : List ℕ
   pub due_front : IsFront text (due lines given)
   pub whole_lines : IsFront (replies_text (all_but_last given)) text
