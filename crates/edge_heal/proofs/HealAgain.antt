@@ -7,7 +7,8 @@ use Rattle.topo_base.specs.Point.{Point}
 use Rattle.topo_base.specs.declared.edit.Edit.TheVariants.{ModEdgeSplit, NewEdgesSplit, ModEdgeHeal, NewEdgeHeal}
 use Rattle.topo_base.specs.declared.rule.Rule.TheVariants.{NotOnEdge}
 use Rattle.topo_model.specs.Drawing.{Drawing, Edge, edge_at, has_face, has_node, has_only, is_end_of, node_id_of}
-use Rattle.topo_model.specs.HealEdges.{common_nodes, heal_edges, heal_mod, heal_new, is_closed}
+use Rattle.topo_model.specs.HealEdges.{common_nodes, is_closed}
+use Rattle.topo_model.specs.Edits.{heal_edges, heal_mod, heal_new, split_edge, split_mod, split_new}
 use Rattle.topo_model.specs.IsoEdits.{is_in_feature, with_node}
 use Rattle.topo_model.specs.Line.{is_line_end, is_proper, on_line, segments_of}
 use Rattle.topo_model.specs.Outcome.{the_edge, the_node}
@@ -16,9 +17,11 @@ use Rattle.topo_model.specs.Relations.{edge_type, features_of, follow, node_type
 use Rattle.topo_model.specs.RemoveEdge.{have_same_features}
 use Rattle.topo_model.specs.Replay.{after, drawing_of}
 use Rattle.topo_model.specs.Rows.{without_row}
-use Rattle.topo_model.specs.SplitEdge.{first_part, second_part, split_edge, split_mod, split_new}
+use Rattle.topo_model.specs.SplitEdge.{first_part, second_part}
 use Rattle.topo_model.specs.Step.{step}
 use Rattle.topo_model.specs.Subdivision.{is_edge_known}
+use Rattle.topo_model.specs.Apply.{carried_out}
+use Rattle.topo_model.specs.Change.{EdgeIsCut, EdgeIsCutAnew, EdgesAreJoined, EdgesAreJoinedAnew}
 use Rattle.topo_model.proofs.Members.{contains-found}
 use Rattle.topo_model.proofs.PlainSplits.{ComesFrom, from_both}
 use Rattle.relation_rows.proofs.KnownFeatures.{references_parts}
@@ -102,9 +105,13 @@ node_free S e p x y g = rw none refl
         ∙ others_unlisted S edge_type e.edge_id x y node_type S.next_ids.node S.relations refl (λ r c. node_unlisted S S.next_ids.node r g.referenced (omega arith) c)
 
 -- ---- an accepted heal
+either_done : (anew : Bool) (S : Drawing) (e f : Edge) (n : ℕ) → carried_out S (cond anew (Ok (EdgesAreJoinedAnew e f n)) (Ok (EdgesAreJoined e f n))) ≡ cond anew (heal_new S e f n) (heal_mod S e f n)
+either_done true S e f n = refl
+either_done false S e f n = refl
+
 heal_chain : (anew : Bool) (T : Drawing) (e f : Edge) (n : ℕ) (more : List ℕ) → is_closed e ≡ false → is_closed f ≡ false → (e.edge_id == f.edge_id) ≡ false → common_nodes e f ≡ n ∷ more
     → has_only T n e.edge_id f.edge_id ≡ true → have_same_features T edge_type e.edge_id f.edge_id ≡ true → is_in_feature T node_type n ≡ false
-    → heal_edges anew T (Some e) (Some f) ≡ (if anew then heal_new T e f n else heal_mod T e f n)
+    → heal_edges anew T (Some e) (Some f) ≡ carried_out T (cond anew (Ok (EdgesAreJoinedAnew e f n)) (Ok (EdgesAreJoined e f n)))
 heal_chain anew T e f n more open_e open_f differ common only same free = rw (open_e, open_f, differ, common, only, same, free) refl
 
 -- the parts x and y among these edges
@@ -135,6 +142,7 @@ heal_is anew S e p edges x y g parts =
     ∙ heal_chain anew T one two n more open_one open_two parts.numbers.differ
     (ap (λ b. cond (b || (e.end_node == n)) (n ∷ more) more) (itself n))
     (ap not (only_parts S.edges edges e p n S.next_ids.edge x y known parts.come)) (parts_shared S e p x y g parts.numbers) (node_free S e p x y g)
+    ∙ either_done anew T one two n
 
 nodes_again : (S : Drawing) (e : Edge) (p : Point) → Splits S e p → without_row node_id_of (with_node S None p).nodes S.next_ids.node ≡ S.nodes
 nodes_again S e p g = next_goes node_id_of S.next_ids.node S.nodes (record { node_id = S.next_ids.node; containing_face = None; geom = p }) refl (record { test = g.referenced.rings.rings.plain.node_ids })
@@ -142,7 +150,7 @@ nodes_again S e p g = next_goes node_id_of S.next_ids.node S.nodes (record { nod
 -- ---- the edge keeps its number
 mod_split : (S : Drawing) (e : Edge) (p : Point) → Splits S e p
     → after S (ModEdgeSplit e.edge_id p) ≡ split_drawing S e.edge_id p (parts_of S.edges e p S.next_ids.node S.next_ids.edge) e.edge_id S.next_ids.edge
-mod_split S e p g = ap (drawing_of S) (ap (λ o. split_edge false S o p) g.there ∙ ap (λ b. cond (not b) (Err NotOnEdge) (split_mod S e p)) g.inside)
+mod_split S e p g = ap (drawing_of S) (ap (λ o. split_edge false S o p) g.there ∙ ap (λ b. carried_out S (cond (not b) (Err NotOnEdge) (Ok (EdgeIsCut e p)))) g.inside)
 
 mod_parts : (S : Drawing) (e : Edge) (p : Point) → Splits S e p → HasParts S e p (parts_of S.edges e p S.next_ids.node S.next_ids.edge) e.edge_id S.next_ids.edge
 mod_parts S e p g =
@@ -170,7 +178,7 @@ mod_undone S e p g =
 -- ---- a new edge comes in its place
 new_split : (S : Drawing) (e : Edge) (p : Point) → Splits S e p
     → after S (NewEdgesSplit e.edge_id p) ≡ record (split_drawing S e.edge_id p (new_parts_of S.edges e p S.next_ids.node S.next_ids.edge) S.next_ids.edge (S.next_ids.edge + 1)) { next_ids = record (S.next_ids) { node = S.next_ids.node + 1; edge = S.next_ids.edge + 2 } }
-new_split S e p g = ap (drawing_of S) (ap (λ o. split_edge true S o p) g.there ∙ ap (λ b. cond (not b) (Err NotOnEdge) (split_new S e p)) g.inside)
+new_split S e p g = ap (drawing_of S) (ap (λ o. split_edge true S o p) g.there ∙ ap (λ b. carried_out S (cond (not b) (Err NotOnEdge) (Ok (EdgeIsCutAnew e p)))) g.inside)
 
 two_more : (n : ℕ) → n + 2 ≡ n + 1 + 1
 two_more n = omega arith

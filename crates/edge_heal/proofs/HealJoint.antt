@@ -1,5 +1,5 @@
 -- Two edges that may be healed at a node: what is known of them, and of the drawing after it.
-use Rattle.std.proofs.Common.{◌≡◌, ℕ, refl, sym, ◌∙◌, ap, subst, ◌⊎◌, inl, inr, ⊎_elim, Bool, true, false, not, cond, ◌&&◌, ◌||◌, eqb-true, eq-eqb, List, [], ◌∷◌, ◌++◌, Some, Err}
+use Rattle.std.proofs.Common.{◌≡◌, ℕ, refl, sym, ◌∙◌, ap, subst, ◌⊎◌, inl, inr, ⊎_elim, Bool, true, false, not, cond, ◌&&◌, ◌||◌, eqb-true, eq-eqb, List, [], ◌∷◌, ◌++◌, Some, Ok, Err}
 use Rattle.std.specs.Prelude.{◌==◌}
 use Rattle.std.specs.List.{Contains, list_any}
 use Rattle.std.proofs.lemmas.Bool.{and_from, false≢true, false_from_ne_true, not-true, or_left, or_right}
@@ -9,12 +9,16 @@ use Rattle.topo_base.specs.declared.rows.EdgeRow.{EdgeRow}
 use Rattle.topo_base.specs.declared.rule.Rule.TheVariants.{ClosedEdge, HealSplitsFeature, NodeInFeature, NotJoined}
 use Rattle.topo_model.specs.Drawing.{Drawing, Edge, edge_at, edge_id_of, has_node, has_only, is_end_of}
 use Rattle.topo_model.specs.HalfEdge.{half_edges}
-use Rattle.topo_model.specs.HealEdges.{common_nodes, heal_at, heal_edges, heal_mod, heal_new, healed_node, is_closed, is_nothing, joined_edge}
+use Rattle.topo_model.specs.HealEdges.{common_nodes, healed_node, is_closed, is_nothing, joined_edge}
+use Rattle.topo_model.specs.Edits.{heal_at, heal_edges, heal_mod, heal_new}
 use Rattle.topo_model.specs.Outcome.{Outcome}
 use Rattle.topo_model.specs.Relations.{edge_type, follow}
 use Rattle.topo_model.specs.Replay.{drawing_of}
 use Rattle.topo_model.specs.Rows.{without_row}
 use Rattle.topo_model.specs.Tables.{drawn_edge, edge_row, tables_of}
+use Rattle.topo_model.specs.Apply.{Decision, carried_out}
+use Rattle.topo_model.specs.Decide.{edges_joined_at}
+use Rattle.topo_model.specs.Change.{EdgesAreJoined, EdgesAreJoinedAnew}
 use Rattle.topo_model.proofs.ListTests.{contains_cases, contains_none}
 use Rattle.topo_model.proofs.Members.{contains-filtered, contains-found, contains-mapped}
 use Rattle.face_rings.proofs.FaceBorders.{has_plain_lines}
@@ -145,8 +149,12 @@ healed_changed S n e f good h =
         inl (subst (λ (z : Edge). Contains S.edges z × (z.edge_id ≡ e.edge_id → ⊥) × (z.edge_id ≡ f.edge_id → ⊥)) is (was.0, (λ q. false≢true (sym t ∙ eq-eqb y.edge_id e.edge_id q)), was.1))
 
 -- ---- the edit is accepted
-passed : (S : Drawing) (closed apart : Bool) (o x : Outcome) → closed ≡ false → apart ≡ false → o ≡ x → cond closed (Err ClosedEdge) (cond apart (Err NotJoined) o) ≡ x
-passed S closed apart o x opened joined is = λ i. cond (opened i) (Err ClosedEdge) (cond (joined i) (Err NotJoined) (is i))
+passed : (S : Drawing) (closed apart : Bool) (d : Decision) (x : Outcome) → closed ≡ false → apart ≡ false → carried_out S d ≡ x → carried_out S (cond closed (Err ClosedEdge) (cond apart (Err NotJoined) d)) ≡ x
+passed S closed apart d x opened joined is = (λ i. carried_out S (cond (opened i) (Err ClosedEdge) (cond (joined i) (Err NotJoined) d))) ∙ is
+
+either_done : (anew : Bool) (S : Drawing) (e f : Edge) (n : ℕ) → carried_out S (cond anew (Ok (EdgesAreJoinedAnew e f n)) (Ok (EdgesAreJoined e f n))) ≡ cond anew (heal_new S e f n) (heal_mod S e f n)
+either_done true S e f n = refl
+either_done false S e f n = refl
 
 -- a list with an element is not nothing
 something : (xs : List ℕ) (n : ℕ) → Contains xs n → is_nothing xs ≡ false
@@ -163,9 +171,9 @@ heals anew S r q n h =
     let f = drawn_edge q in
     let found = contains-found (λ m. has_only S m e.edge_id f.edge_id) n (common_nodes e f) h.healed in
     let done = cond anew (heal_new S e f n) (heal_mod S e f n) in
-    let at : heal_at anew S e f (Some n) ≡ done = λ i. cond (not (h.shared i)) (Err HealSplitsFeature) (cond (h.unlisted i) (Err NodeInFeature) done) in
+    let at : heal_at anew S e f (Some n) ≡ done = (λ i. carried_out S (cond (not (h.shared i)) (Err HealSplitsFeature) (cond (h.unlisted i) (Err NodeInFeature) (cond anew (Ok (EdgesAreJoinedAnew e f n)) (Ok (EdgesAreJoined e f n)))))) ∙ either_done anew S e f n in
     (λ i. heal_edges anew S (h.first_named i) (h.second_named i))
-    ∙ passed S (is_closed e || is_closed f) (e.edge_id == f.edge_id || is_nothing (common_nodes e f)) (heal_at anew S e f (healed_node S e f)) done (both_false (is_closed e) (is_closed f) h.first_open h.second_open)
+    ∙ passed S (is_closed e || is_closed f) (e.edge_id == f.edge_id || is_nothing (common_nodes e f)) (edges_joined_at anew S e f (healed_node S e f)) done (both_false (is_closed e) (is_closed f) h.first_open h.second_open)
     (both_false (e.edge_id == f.edge_id) (is_nothing (common_nodes e f)) h.apart (something (common_nodes e f) n found.0)) (ap (heal_at anew S e f) h.healed ∙ at)
 
 -- ---- both drawings are plain

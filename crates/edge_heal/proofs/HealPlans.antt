@@ -5,7 +5,7 @@ use Rattle.std.specs.List.{Contains}
 use Rattle.topo_base.specs.declared.rows.EdgeRow.{EdgeRow}
 use Rattle.topo_base.specs.declared.rule.Rule.TheVariants.{HealSplitsFeature, NoEdge, NodeInFeature}
 use Rattle.topo_model.specs.Drawing.{Drawing, Edge, edge_at}
-use Rattle.topo_model.specs.HealEdges.{heal_at, heal_edges, heal_mod, heal_new}
+use Rattle.topo_model.specs.Edits.{heal_at, heal_edges, heal_mod, heal_new}
 use Rattle.topo_model.specs.IsoEdits.{is_in_feature}
 use Rattle.topo_model.specs.Outcome.{Outcome}
 use Rattle.topo_model.specs.Relations.{edge_type, node_type}
@@ -16,6 +16,8 @@ use Rattle.topo_model.specs.Writes.{edge_row_id}
 use Rattle.edit_conditions.proofs.RowTests.{edge_found, edge_none}
 use Rattle.read_set.specs.declared.end.PlanEnd.{PlanEnd}
 use Rattle.read_set.specs.Edited.{AnswersOutcome}
+use Rattle.topo_model.specs.Apply.{carried_out}
+use Rattle.topo_model.specs.Change.{EdgesAreJoined, EdgesAreJoinedAnew}
 use Rattle.edge_heal.specs.Healing.{IsRowOf, heal_done_by}
 use Rattle.read_set.specs.declared.edited.Edited.{Edited}
 use Rattle.edge_heal.proofs.SplitDrafts.{row_found}
@@ -47,7 +49,7 @@ pub answers_rows : (anew : Bool) (S : Drawing) (front : ℕ) (a b : Option Edge)
 answers_rows anew S front a b e f r first second h = subst (λ (o : Outcome). AnswersOutcome S front o r) (λ i. heal_edges anew S (sym first i) (sym second i)) h
 
 -- ---- features forbid it not
-done_is : (anew : Bool) (S : Drawing) (e f : Edge) (n : ℕ) → cond anew (heal_new S e f n) (heal_mod S e f n) ≡ Ok (heal_done_by anew S e f n)
+done_is : (anew : Bool) (S : Drawing) (e f : Edge) (n : ℕ) → carried_out S (cond anew (Ok (EdgesAreJoinedAnew e f n)) (Ok (EdgesAreJoined e f n))) ≡ Ok (heal_done_by anew S e f n)
 done_is true S e f n = refl
 done_is false S e f n = refl
 
@@ -57,4 +59,4 @@ accepted anew t x e f n same shared unlisted =
     let S = drawn x in
     let alike = ap (λ (u : Tables). have_same_features (drawn u) edge_type e.edge_id f.edge_id) (sym same) ∙ shared in
     let free = ap (λ (u : Tables). is_in_feature (drawn u) node_type n) (sym same) ∙ unlisted in
-    (λ i. cond (not (alike i)) (Err HealSplitsFeature) (cond (free i) (Err NodeInFeature) (cond anew (heal_new S e f n) (heal_mod S e f n)))) ∙ done_is anew S e f n
+    (λ i. carried_out S (cond (not (alike i)) (Err HealSplitsFeature) (cond (free i) (Err NodeInFeature) (cond anew (Ok (EdgesAreJoinedAnew e f n)) (Ok (EdgesAreJoined e f n)))))) ∙ done_is anew S e f n

@@ -1,5 +1,5 @@
 -- The edges of a drawing in which one is split.
-use Rattle.std.proofs.Common.{◌≡◌, ℕ, ◌+◌, refl, sym, ◌∙◌, ap, subst, true, false, not, cond, eqb-true, eq-eqb, List, [], ◌∷◌, Err}
+use Rattle.std.proofs.Common.{◌≡◌, ℕ, ◌+◌, refl, sym, ◌∙◌, ap, subst, true, false, not, cond, eqb-true, eq-eqb, List, [], ◌∷◌, Err, Ok}
 use Rattle.std.specs.Prelude.{◌==◌}
 use Rattle.std.specs.List.{Contains}
 use Rattle.std.proofs.lemmas.Bool.{and_parts, or_left, or_right, false≢true, false_from_ne_true, not-true}
@@ -16,8 +16,11 @@ use Rattle.topo_model.specs.Relation.{SameCoordinates}
 use Rattle.topo_model.specs.Relations.{edge_type, follow}
 use Rattle.topo_model.specs.Replay.{drawing_of}
 use Rattle.topo_model.specs.Rows.{with_change, without_row}
-use Rattle.topo_model.specs.SplitEdge.{first_part, second_part, split_edge, split_mod, split_new}
+use Rattle.topo_model.specs.SplitEdge.{first_part, second_part}
+use Rattle.topo_model.specs.Edits.{split_edge, split_mod, split_new}
 use Rattle.topo_model.specs.Tables.{drawn_edge, edge_row}
+use Rattle.topo_model.specs.Apply.{Decision, carried_out}
+use Rattle.topo_model.specs.Change.{EdgeIsCut, EdgeIsCutAnew}
 use Rattle.topo_model.proofs.ListTests.{contains_here, contains_there}
 use Rattle.topo_model.proofs.Members.{contains-filter, contains-map, contains-mapped, ids_differ}
 use Rattle.topo_model.proofs.PlainSplits.{from_both, from_changed}
@@ -103,14 +106,14 @@ mod_split S e p good ce cut =
     }
 
 -- ---- the edit is accepted
-inside_else : (S : Drawing) (e : Edge) (p : Point) (o : Outcome) → is_inside_line p e.geom ≡ true → cond (not (is_inside_line p e.geom)) (Err NotOnEdge) o ≡ o
-inside_else S e p o is = ap (λ b. cond (not b) (Err NotOnEdge) o) is
+inside_else : (S : Drawing) (e : Edge) (p : Point) (d : Decision) → is_inside_line p e.geom ≡ true → carried_out S (cond (not (is_inside_line p e.geom)) (Err NotOnEdge) d) ≡ carried_out S d
+inside_else S e p d is = ap (λ b. carried_out S (cond (not b) (Err NotOnEdge) d)) is
 
 pub mod_accepted : (S : Drawing) (r : EdgeRow) (p : Point) → IsCut S r p → drawing_of S (split_edge false S (edge_at S r.edge_id) p) ≡ (mod_done S (drawn_edge r) p).drawing
-mod_accepted S r p h = ap (λ o. drawing_of S (split_edge false S o p)) h.named ∙ ap (drawing_of S) (inside_else S (drawn_edge r) p (split_mod S (drawn_edge r) p) h.inside)
+mod_accepted S r p h = ap (λ o. drawing_of S (split_edge false S o p)) h.named ∙ ap (drawing_of S) (inside_else S (drawn_edge r) p (Ok (EdgeIsCut (drawn_edge r) p)) h.inside)
 
 pub new_accepted : (S : Drawing) (r : EdgeRow) (p : Point) → IsCut S r p → drawing_of S (split_edge true S (edge_at S r.edge_id) p) ≡ (new_done S (drawn_edge r) p).drawing
-new_accepted S r p h = ap (λ o. drawing_of S (split_edge true S o p)) h.named ∙ ap (drawing_of S) (inside_else S (drawn_edge r) p (split_new S (drawn_edge r) p) h.inside)
+new_accepted S r p h = ap (λ o. drawing_of S (split_edge true S o p)) h.named ∙ ap (drawing_of S) (inside_else S (drawn_edge r) p (Ok (EdgeIsCutAnew (drawn_edge r) p)) h.inside)
 
 -- ---- both drawings are plain
 pub mod_is : (S : Drawing) (r : EdgeRow) (p : Point) → IsRinged S → IsCut S r p

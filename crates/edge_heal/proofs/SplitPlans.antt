@@ -11,13 +11,15 @@ use Rattle.topo_model.specs.LinePoints.{has_proper_segments}
 use Rattle.topo_model.specs.Outcome.{Accepted, Outcome}
 use Rattle.topo_model.specs.Plain.{IsPlain}
 use Rattle.topo_model.specs.Rows.{row_at}
-use Rattle.topo_model.specs.SplitEdge.{split_edge, split_mod, split_new}
+use Rattle.topo_model.specs.Edits.{split_edge, split_mod, split_new}
 use Rattle.topo_model.specs.Tables.{Tables, drawn, drawn_edge, tables_of}
 use Rattle.topo_model.specs.Writes.{edge_row_id}
 use Rattle.edit_conditions.proofs.RowTests.{edge_found, edge_none}
 use Rattle.read_set.specs.declared.end.PlanEnd.{PlanEnd}
 use Rattle.read_set.specs.declared.end.PlanEnd.TheVariants.{Memory}
 use Rattle.read_set.specs.Edited.{AnswersOutcome}
+use Rattle.topo_model.specs.Apply.{carried_out}
+use Rattle.topo_model.specs.Change.{EdgeIsCut, EdgeIsCutAnew}
 use Rattle.edge_heal.specs.Splitting.{IsCut, done_by}
 use Rattle.read_set.specs.declared.edited.Edited.{Edited}
 use Rattle.edge_heal.proofs.SplitDrafts.{cut_of, proper_line}
@@ -39,9 +41,9 @@ pub not_on_edge : (anew : Bool) (t x : Tables) (id : ℕ) (found : Option (Bor E
 not_on_edge anew t x id found row p same is e outside =
     let S = drawn x in
     ap (λ o. split_edge anew S o p) (edge_found x id found row is (row_in t x id (option_copied found) same e))
-    ∙ ap (λ b. cond (not b) (Err NotOnEdge) (cond anew (split_new S (drawn_edge (row.now)) p) (split_mod S (drawn_edge (row.now)) p))) outside
+    ∙ ap (λ b. carried_out S (cond (not b) (Err NotOnEdge) (cond anew (Ok (EdgeIsCutAnew (drawn_edge (row.now)) p)) (Ok (EdgeIsCut (drawn_edge (row.now)) p))))) outside
 
-done_is : (anew : Bool) (S : Drawing) (e : Edge) (p : Point) → cond anew (split_new S e p) (split_mod S e p) ≡ Ok (done_by anew S e p)
+done_is : (anew : Bool) (S : Drawing) (e : Edge) (p : Point) → carried_out S (cond anew (Ok (EdgeIsCutAnew e p)) (Ok (EdgeIsCut e p))) ≡ Ok (done_by anew S e p)
 done_is true S e p = refl
 done_is false S e p = refl
 
@@ -50,7 +52,7 @@ pub accepted : (anew : Bool) (t x : Tables) (id : ℕ) (found : Option (Bor Edge
 accepted anew t x id found row p same is e inside =
     let S = drawn x in
     ap (λ o. split_edge anew S o p) (edge_found x id found row is (row_in t x id (option_copied found) same e))
-    ∙ ap (λ b. cond (not b) (Err NotOnEdge) (cond anew (split_new S (drawn_edge (row.now)) p) (split_mod S (drawn_edge (row.now)) p))) inside
+    ∙ ap (λ b. carried_out S (cond (not b) (Err NotOnEdge) (cond anew (Ok (EdgeIsCutAnew (drawn_edge (row.now)) p)) (Ok (EdgeIsCut (drawn_edge (row.now)) p))))) inside
     ∙ done_is anew S (drawn_edge (row.now)) p
 
 pub want_of_memory : (S : Drawing) (front : ℕ) (o : Outcome) (done : Accepted) (r : Result Edited PlanEnd) → o ≡ Ok done → r ≡ Err Memory → AnswersOutcome S front o r

@@ -1,7 +1,7 @@
 // Plans of split and healed edges.
 ghost use Rattle.std.specs.Prelude.{◌≡◌, false, true, IfOk, IsTrue, Some};
 ghost use Rattle.topo_model.specs.Drawing.{edge_at};
-ghost use Rattle.topo_model.specs.SplitEdge.{split_edge};
+ghost use Rattle.topo_model.specs.Edits.{split_edge};
 ghost use Rattle.topo_model.specs.Step.{step};
 ghost use Rattle.topo_model.specs.Tables.{drawn, drawn_edge, tables_of};
 ghost use Rattle.read_set.specs.Answered.{IsAnswered};

@@ -1,7 +1,8 @@
 // The rules by which two edges are healed at a node.
 ghost use Rattle.std.specs.Prelude.{◌≡◌, ◌==◌, ◌&&◌, ◌||◌, IfOk, Some};
 ghost use Rattle.topo_model.specs.Drawing.{edge_at, has_only, is_end_of};
-ghost use Rattle.topo_model.specs.HealEdges.{common_nodes, heal_at, heal_edges, healed_node, is_closed, is_nothing};
+ghost use Rattle.topo_model.specs.HealEdges.{common_nodes, healed_node, is_closed, is_nothing};
+ghost use Rattle.topo_model.specs.Edits.{heal_at, heal_edges};
 ghost use Rattle.topo_model.specs.IsoEdits.{is_in_feature as is_element_in_feature};
 ghost use Rattle.topo_model.specs.Relations.{edge_type, node_type};
 ghost use Rattle.topo_model.specs.RemoveEdge.{have_same_features};

@@ -7,7 +7,10 @@ use Rattle.topo_model.specs.Drawing.{Drawing, Edge, edge_at, edge_id_of}
 use Rattle.topo_model.specs.IsoEdits.{is_in_feature}
 use Rattle.topo_model.specs.Outcome.{Outcome}
 use Rattle.topo_model.specs.Relations.{edge_type, face_type}
-use Rattle.topo_model.specs.RemoveEdge.{have_same_features, merged, remove_edge}
+use Rattle.topo_model.specs.RemoveEdge.{have_same_features}
+use Rattle.topo_model.specs.Edits.{remove_edge}
+use Rattle.topo_model.specs.Apply.{carried_out}
+use Rattle.topo_model.specs.Decide.{faces_join}
 use Rattle.topo_model.specs.Rows.{row_at}
 use Rattle.topo_model.specs.Tables.{Tables, drawn, drawn_edge}
 use Rattle.topo_model.specs.Writes.{edge_row_id}
@@ -44,7 +47,7 @@ pub refused_unknown : (anew : Bool) (t : Tables) (id : ℕ) → row_at edge_row_
 refused_unknown anew t id none = ap (remove_edge anew (drawn t)) (edge_of t id None none)
 
 abbrev steps_by : (anew : Bool) (S : Drawing) (e : Edge) (b c : Bool) → Outcome
-steps_by anew S e b c = cond b (Err EdgeInFeature) (cond c (Err FaceInFeature) (merged anew S e))
+steps_by anew S e b c = carried_out S (cond b (Err EdgeInFeature) (cond c (Err FaceInFeature) (faces_join anew e)))
 
 pub refused_listed : (anew : Bool) (t : Tables) (id : ℕ) (row : EdgeRow) → row_at edge_row_id t.edges id ≡ Some row → is_in_feature (drawn t) edge_type row.edge_id ≡ true
     → remove_edge anew (drawn t) (edge_at (drawn t) id) ≡ Err EdgeInFeature

@@ -3,7 +3,8 @@ ghost use Rattle.std.specs.Prelude.{◌≡◌, ◌==◌, ◌&&◌, not, Contains
 ghost use Rattle.topo_model.specs.Drawing.{edge_at};
 ghost use Rattle.topo_model.specs.IsoEdits.{is_in_feature as is_element_in_feature};
 ghost use Rattle.topo_model.specs.Relations.{edge_type, face_type};
-ghost use Rattle.topo_model.specs.RemoveEdge.{have_same_features, remove_edge};
+ghost use Rattle.topo_model.specs.RemoveEdge.{have_same_features};
+ghost use Rattle.topo_model.specs.Edits.{remove_edge};
 ghost use Rattle.topo_model.specs.Step.{step};
 ghost use Rattle.topo_model.specs.Tables.{drawn, drawn_edge, tables_of};
 ghost use Rattle.merged_faces.specs.Merging.{with_merged};

@@ -24,14 +24,15 @@ use Rattle.topo_model.specs.Outcome.{Outcome}
 use Rattle.topo_model.specs.Legal.{keeps_limits, is_line_short, is_editor, is_entry, ids_within, journal_length, are_accepted}
 use Rattle.topo_model.specs.Step.{step}
 use Rattle.topo_model.specs.Replay.{drawing_of, after, after_all, edits_of, replay}
-use Rattle.topo_model.specs.IsoEdits.{with_edge, add_iso_node, move_iso_node, remove_iso_node, add_iso_edge, remove_iso_edge}
-use Rattle.topo_model.specs.AddEdge.{Division, add_edge, with_parts, coming, divided_edge, face_at_start}
+use Rattle.topo_model.specs.IsoEdits.{with_edge}
+use Rattle.topo_model.specs.Edits.{add_iso_node, move_iso_node, remove_iso_node, add_iso_edge, remove_iso_edge, add_edge, with_parts, remove_edge, split_edge, split_new, split_mod, heal_edges, heal_at, heal_mod, heal_new, add_layer, layer_on, create_topo_geom, with_feature, add_element, add_element_on, with_element, rem_element, drop_feature}
+use Rattle.topo_model.specs.AddEdge.{Division, coming, divided_edge, face_at_start}
 use Rattle.topo_model.specs.HalfEdge.{HalfEdge, half_edges, forward_of, backward_of}
 use Rattle.topo_base.specs.declared.rule.Rule.TheVariants.{NotOnEdge}
-use Rattle.topo_model.specs.RemoveEdge.{remove_edge, renamed_edge}
-use Rattle.topo_model.specs.SplitEdge.{first_part, second_part, split_edge, split_new, split_mod}
-use Rattle.topo_model.specs.HealEdges.{away_from, joined_edge, heal_edges, heal_at, heal_mod, heal_new, healed_node}
-use Rattle.topo_model.specs.Layers.{add_layer, layer_on, create_topo_geom, with_feature, add_element, add_element_on, with_element, rem_element, drop_feature}
+use Rattle.topo_model.specs.RemoveEdge.{renamed_edge}
+use Rattle.topo_model.specs.SplitEdge.{first_part, second_part}
+use Rattle.topo_model.specs.HealEdges.{away_from, joined_edge, healed_node}
+use Rattle.topo_model.specs.Change.{EdgeIsCut, EdgeIsCutAnew}
 use Rattle.topo_model.proofs.Keeping.{Keeps, refuses_or, refuses_else, either, accepted, refused}
 use Rattle.topo_model.proofs.ListTests.{contains_cases, contains_none, Decides-all}
 use Rattle.topo_model.proofs.Members.{contains-mapped, contains-filtered, contains-found}
@@ -171,8 +172,9 @@ remove_lone_edge S (Some e) h =
     let k = filter_long (λ r. not (edge_id_of r == e.edge_id)) S.edges h in
     search (keeping, k)
 
-parts : (T : Drawing) (both : Bool) (e : Edge) (f : ℕ) (S : Drawing) → AreLong T.edges → Keeps KeepsLong S (with_parts T both e f)
-parts T both e f S h =
+parts : (both : Bool) (S : Drawing) (a b : NodeRow) (line : List Point) (f : ℕ) → AreLong ((with_edge S a b line f).edges) → Keeps KeepsLong S (with_parts both S a b line f)
+parts both S a b line f h =
+    let T = with_edge S a b line f in
     let made : (d : Division) → AreLong (map (divided_edge d (half_edges T)) T.edges) = λ d. map_long (divided_edge d (half_edges T)) T.edges (λ x l. l) h in
     search (keeping, h, made)
 
@@ -181,7 +183,7 @@ new_edge both S None b line h l = refused KeepsLong S _
 new_edge both S (Some a) None line h l = refused KeepsLong S _
 new_edge both S (Some a) (Some b) line h l =
     let f = face_at_start S a line in
-    let k = parts (with_edge S a b line f) both (coming S a b line f) f S (push_long S.edges (coming S a b line f) h l) in
+    let k = parts both S a b line f (push_long S.edges (coming S a b line f) h l) in
     search (keeping, k)
 
 gone_edge : (anew : Bool) (S : Drawing) (e : Option Edge) → AreLong S.edges → Keeps KeepsLong S (remove_edge anew S e)
@@ -199,7 +201,7 @@ split anew S (Some e) p h c =
     let long = h.each e (c e refl) in
     refuses_else KeepsLong S (not (is_inside_line p e.geom)) NotOnEdge _ (λ inside.
     let second = inside_from_long p e.geom (passed (is_inside_line p e.geom) inside) in
-    either KeepsLong S anew (split_new S e p) (split_mod S e p)
+    either KeepsLong S anew (Ok (EdgeIsCutAnew e p)) (Ok (EdgeIsCut e p))
     (accepted KeepsLong S _ (two_long (without_row edge_id_of S.edges e.edge_id) (first_part e n p new) (second_part e n p (new + 1)) (filter_long (λ r. not (edge_id_of r == e.edge_id)) S.edges h) (up_to_long p e.geom long) second))
     (accepted KeepsLong S _ (push_long (with_change edge_id_of S.edges e.edge_id (λ x. first_part x n p x.edge_id)) (second_part e n p new)
     (change_long S.edges e.edge_id (λ x. first_part x n p x.edge_id) (λ x d is. up_to_long p x.geom (h.each x d)) h) second)))

@@ -6,10 +6,14 @@ use Rattle.std.proofs.lemmas.Bool.{and_parts}
 use Rattle.topo_base.specs.Point.{Point}
 use Rattle.topo_base.specs.declared.rows.NodeRow.{NodeRow}
 use Rattle.topo_base.specs.declared.rule.Rule.TheVariants.{LineEnds, LineNotSimple, LineBlocked}
+use Rattle.topo_model.specs.Apply.{apply, carried_out}
+use Rattle.topo_model.specs.Change.{Change}
+use Rattle.topo_model.specs.Decide.{edge_in_face}
 use Rattle.topo_model.proofs.Members.{contains-found}
 use Rattle.topo_model.proofs.PlainParts.{parts_of, plain_of}
 use Rattle.topo_model.proofs.PlainStaying.{HasPlain, edge_more}
-use Rattle.topo_model.specs.AddEdge.{add_edge, coming, face_at_end, face_at_start, with_parts}
+use Rattle.topo_model.specs.AddEdge.{coming, face_at_end, face_at_start}
+use Rattle.topo_model.specs.Edits.{add_edge, with_parts}
 use Rattle.topo_model.specs.Blocked.{goes_between, is_line_blocked}
 use Rattle.topo_model.specs.Drawing.{Drawing, Edge, has_face, node_at}
 use Rattle.topo_model.specs.HalfEdge.{backward_of}
@@ -79,16 +83,16 @@ placed_where S start end a b line f ordered found_a found_b ends simple face fre
     }
 
 -- ---- and the edit is accepted
-push_ok : (c d : Bool) (x y z : Accepted) → ◌≡◌ {A = Outcome} (cond c (Ok x) (cond d (Ok y) (Ok z))) (Ok (cond c x (cond d y z)))
-push_ok true d x y z = refl
-push_ok false true x y z = refl
-push_ok false false x y z = refl
+push_ok : (S : Drawing) (c d : Bool) (x y z : Change) → carried_out S (cond c (Ok x) (cond d (Ok y) (Ok z))) ≡ Ok (cond c (apply S x) (cond d (apply S y) (apply S z)))
+push_ok S true d x y z = refl
+push_ok S false true x y z = refl
+push_ok S false false x y z = refl
 
-parts_are : (S : Drawing) (a b : NodeRow) (line : List Point) (f : ℕ) (both : Bool) → with_parts (with_edge S a b line f) both (coming S a b line f) f ≡ Ok (with_edge_in both S a b line f)
-parts_are S a b line f both = push_ok (contains_half_edge (left_ring S a b line f) (backward_of (coming S a b line f))) (both && not (f == 0)) _ _ _
+parts_are : (S : Drawing) (a b : NodeRow) (line : List Point) (f : ℕ) (both : Bool) → with_parts both S a b line f ≡ Ok (with_edge_in both S a b line f)
+parts_are S a b line f both = push_ok S (contains_half_edge (left_ring S a b line f) (backward_of (coming S a b line f))) (both && not (f == 0)) _ _ _
 
 outcome_where : (S : Drawing) (a b : NodeRow) (line : List Point) (f : ℕ) (both : Bool) (c d e : Bool) → c ≡ true → d ≡ true → e ≡ false
-    → ◌≡◌ {A = Outcome} (cond (not c) (Err LineEnds) (cond (not d) (Err LineNotSimple) (cond e (Err LineBlocked) (with_parts (with_edge S a b line f) both (coming S a b line f) f)))) (Ok (with_edge_in both S a b line f))
+    → carried_out S (cond (not c) (Err LineEnds) (cond (not d) (Err LineNotSimple) (cond e (Err LineBlocked) (edge_in_face both S a b line f)))) ≡ Ok (with_edge_in both S a b line f)
 outcome_where S a b line f both true true false p q r = parts_are S a b line f both
 outcome_where S a b line f both false d e p q r = absurd cc
 outcome_where S a b line f both true false e p q r = absurd cc

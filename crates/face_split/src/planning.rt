@@ -1,6 +1,7 @@
 // Plans of added edges.
 ghost use Rattle.std.specs.Prelude.{◌≡◌, ◌==◌, ◌||◌, not, true, false, IfOk, IsTrue};
-ghost use Rattle.topo_model.specs.AddEdge.{add_edge, face_at_end as face_where_it_ends};
+ghost use Rattle.topo_model.specs.AddEdge.{face_at_end as face_where_it_ends};
+ghost use Rattle.topo_model.specs.Edits.{add_edge};
 ghost use Rattle.topo_model.specs.Blocked.{is_line_blocked as is_blocked_line};
 ghost use Rattle.topo_model.specs.Drawing.{node_at};
 ghost use Rattle.topo_model.specs.LinePoints.{has_proper_segments};

@@ -13,7 +13,8 @@ use Rattle.topo_model.specs.Drawing.{Drawing, Edge, node_id_of, node_at, edge_at
 use Rattle.topo_base.specs.declared.rule.Rule.TheVariants.{NoFace, SameNode, NotIsolated, PointBlocked, NotInFace, LineEnds, LineNotSimple, LineBlocked, NodeInFeature, EdgeInFeature}
 use Rattle.topo_model.specs.Blocked.{is_blocked, is_blocked_for, is_line_blocked, goes_between}
 use Rattle.topo_model.specs.Faces.{face_at}
-use Rattle.topo_model.specs.IsoEdits.{add_iso_node, move_iso_node, remove_iso_node, add_iso_edge, remove_iso_edge, accepts_face, is_given_face, is_in_feature, is_isolated_edge, put_in_face}
+use Rattle.topo_model.specs.IsoEdits.{accepts_face, is_given_face, is_in_feature, is_isolated_edge, put_in_face}
+use Rattle.topo_model.specs.Edits.{add_iso_node, move_iso_node, remove_iso_node, add_iso_edge, remove_iso_edge}
 use Rattle.topo_model.specs.Line.{is_simple}
 use Rattle.topo_model.specs.Outcome.{Outcome}
 use Rattle.topo_model.specs.Relations.{node_type, edge_type}

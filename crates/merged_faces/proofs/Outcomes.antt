@@ -9,7 +9,8 @@ use Rattle.topo_base.specs.declared.rows.FaceRow.{FaceRow}
 use Rattle.topo_model.specs.Drawing.{Drawing, Edge, has_face, has_node}
 use Rattle.topo_model.specs.Outcome.{Accepted, the_face}
 use Rattle.topo_model.specs.Relations.{is_among}
-use Rattle.topo_model.specs.RemoveEdge.{merged, without_edge}
+use Rattle.topo_model.specs.RemoveEdge.{without_edge}
+use Rattle.topo_model.specs.Edits.{merged}
 use Rattle.topo_model.specs.Rows.{has_row}
 use Rattle.topo_model.specs.Subdivision.{is_edge_known}
 use Rattle.topo_model.specs.Tables.{Tables, face_row, tables_of}

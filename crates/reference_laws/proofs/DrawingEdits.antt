@@ -10,11 +10,12 @@ use Rattle.topo_base.specs.declared.kind.Kind.{Kind}
 use Rattle.topo_base.specs.declared.kind.Kind.TheVariants.{Puntal, Lineal, Areal}
 use Rattle.topo_base.specs.declared.rows.NodeRow.{NodeRow}
 use Rattle.topo_base.specs.declared.rows.RelationRow.{RelationRow}
-use Rattle.topo_model.specs.AddEdge.{Division, add_edge, coming, divided, divided_edge, divided_node, face_at_start, keeps_left, one_new, two_new, with_parts}
+use Rattle.topo_model.specs.AddEdge.{Division, coming, divided, divided_edge, divided_node, face_at_start, keeps_left, one_new, two_new}
+use Rattle.topo_model.specs.Edits.{add_edge, with_parts, add_iso_edge, add_iso_node, move_iso_node, remove_iso_edge, remove_iso_node}
 use Rattle.topo_model.specs.Drawing.{Drawing, Edge, edge_id_of, has_edge, has_face, has_node, node_id_of}
 use Rattle.topo_model.specs.Faces.{face_at}
 use Rattle.topo_model.specs.HalfEdge.{HalfEdge, backward_of, forward_of, half_edges}
-use Rattle.topo_model.specs.IsoEdits.{add_iso_edge, add_iso_node, is_in_feature, move_iso_node, put_at, put_in_face, remove_iso_edge, remove_iso_node, with_edge, with_node}
+use Rattle.topo_model.specs.IsoEdits.{is_in_feature, put_at, put_in_face, with_edge, with_node}
 use Rattle.topo_model.specs.Outcome.{the_edge, the_face}
 use Rattle.topo_model.specs.Relations.{edge_type, face_type, is_among, lists_element, node_type}
 use Rattle.topo_model.specs.Ring.{contains_half_edge, ring_of}
@@ -181,8 +182,10 @@ two_parts T f left right some = record {
     next_some : (a : ℕ) → eqb (a + 1) 0 ≡ false
     next_some a = grind (arith, nat_tests)
 
-parts : (T : Drawing) (both : Bool) (e : Edge) (f : ℕ) (S : Drawing) → eqb T.next_ids.face 0 ≡ false → KnowsRows T → Keeps KeepsRows S (with_parts T both e f)
-parts T both e f S some knows =
+parts : (both : Bool) (S : Drawing) (a b : NodeRow) (line : List Point) (f : ℕ) → eqb S.next_ids.face 0 ≡ false → KnowsRows (with_edge S a b line f) → Keeps KeepsRows S (with_parts both S a b line f)
+parts both S a b line f some knows =
+    let T = with_edge S a b line f in
+    let e = coming S a b line f in
     let hs = half_edges T in
     let left = ring_of hs (forward_of e) in
     let right = ring_of hs (backward_of e) in
@@ -196,5 +199,5 @@ new_edge both S None b line ordered zero knows = refused KeepsRows S _
 new_edge both S (Some a) None line ordered zero knows = refused KeepsRows S _
 new_edge both S (Some a) (Some b) line ordered zero knows =
     let f = face_at_start S a line in
-    let k = parts (with_edge S a b line f) both (coming S a b line f) f S (next_is_some S ordered zero) (edge_more S a b line f knows) in
+    let k = parts both S a b line f (next_is_some S ordered zero) (edge_more S a b line f knows) in
     search (keeping, k)

@@ -11,14 +11,16 @@ use Rattle.topo_base.specs.declared.kind.Kind.TheVariants.{Puntal, Lineal, Areal
 use Rattle.topo_base.specs.declared.rows.NodeRow.{NodeRow}
 use Rattle.topo_base.specs.declared.rows.RelationRow.{RelationRow}
 use Rattle.topo_model.specs.Drawing.{Drawing, Edge, edge_id_of, has_edge, has_face, is_end_of, is_isolated, node_id_of}
-use Rattle.topo_model.specs.HealEdges.{away_from, common_nodes, heal_at, heal_edges, healed_node, is_nothing, joined_edge}
+use Rattle.topo_model.specs.HealEdges.{away_from, common_nodes, healed_node, is_nothing, joined_edge}
+use Rattle.topo_model.specs.Edits.{heal_at, heal_edges, merged, merged_into, remove_edge, split_edge}
 use Rattle.topo_model.specs.IsoEdits.{is_in_feature, with_node}
 use Rattle.topo_model.specs.Line.{joined}
-use Rattle.topo_model.specs.Outcome.{Outcome, the_face}
+use Rattle.topo_model.specs.Outcome.{the_face}
+use Rattle.topo_model.specs.Apply.{Decision, carried_out}
 use Rattle.topo_model.specs.Relations.{edge_type, face_type, features_of, follow, is_among, lists_element, node_type}
-use Rattle.topo_model.specs.RemoveEdge.{have_same_features, merged, merged_into, remove_edge, renamed, renamed_edge, renamed_node, without_edge, without_faces}
+use Rattle.topo_model.specs.RemoveEdge.{have_same_features, renamed, renamed_edge, renamed_node, without_edge, without_faces}
 use Rattle.topo_model.specs.Rows.{without_row, with_change}
-use Rattle.topo_model.specs.SplitEdge.{first_part, second_part, split_edge}
+use Rattle.topo_model.specs.SplitEdge.{first_part, second_part}
 use Rattle.topo_model.specs.Subdivision.{face_id_of}
 use Rattle.topo_model.proofs.Keeping.{Keeps, either, refused, refuses_else, refuses_or}
 use Rattle.topo_model.proofs.ListTests.{contains_cases, contains_none}
@@ -103,7 +105,7 @@ by_both : (P : Type 0) (b : Bool) → (b ≡ true → P) → (b ≡ false → P)
 by_both P true f g = f refl
 by_both P false f g = g refl
 
-either_by : (S : Drawing) (b : Bool) (x y : Outcome) → (b ≡ true → Keeps KeepsRows S x) → (b ≡ false → Keeps KeepsRows S y) → Keeps KeepsRows S (cond b x y)
+either_by : (S : Drawing) (b : Bool) (c d : Decision) → (b ≡ true → Keeps KeepsRows S (carried_out S c)) → (b ≡ false → Keeps KeepsRows S (carried_out S d)) → Keeps KeepsRows S (carried_out S (cond b c d))
 either_by S true x y f g = f refl
 either_by S false x y f g = g refl
 

@@ -13,7 +13,8 @@ use Rattle.topo_base.specs.declared.rows.RelationRow.{RelationRow}
 use Rattle.topo_base.specs.declared.rule.Rule.{Rule}
 use Rattle.topo_base.specs.declared.rule.Rule.TheVariants.{ElementListed}
 use Rattle.topo_model.specs.Drawing.{Drawing, edge_id_of, feature_at, feature_id_of, node_id_of, layer_at, layer_id_of}
-use Rattle.topo_model.specs.Layers.{create_topo_geom, drop_feature, element_rule, elements_rule, is_feature_of, missing, or_else, row_for, same_pair, with_feature}
+use Rattle.topo_model.specs.Layers.{element_rule, elements_rule, is_feature_of, missing, or_else, row_for, same_pair}
+use Rattle.topo_model.specs.Edits.{create_topo_geom, drop_feature, with_feature}
 use Rattle.topo_model.specs.Outcome.{the_feature}
 use Rattle.topo_model.specs.Relations.{is_hierarchical, lists_feature, ordered, row_before}
 use Rattle.topo_model.specs.Rows.{has_row, row_at, without_row}

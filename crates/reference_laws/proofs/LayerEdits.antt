@@ -1,5 +1,5 @@
 -- Each edit of layers and features keeps what is known of them and of their rows.
-use Rattle.std.proofs.Common.{◌≡◌, ◌∙◌, ℕ, ◌+◌, refl, sym, ap, subst, arith, ⊎_elim, Bool, true, false, not, cond, ◌&&◌, ◌||◌, ◌==◌, eqb, eqb-true, eq-eqb, List, [], ◌∷◌, ◌++◌, filter, Option, Some, None, is_some}
+use Rattle.std.proofs.Common.{◌≡◌, ◌∙◌, ℕ, ◌+◌, refl, sym, ap, subst, arith, ⊎_elim, Bool, true, false, not, cond, ◌&&◌, ◌||◌, ◌==◌, eqb, eqb-true, eq-eqb, List, [], ◌∷◌, ◌++◌, filter, Option, Some, None, is_some, Ok}
 use Rattle.std.specs.List.{Contains, list_all, list_any}
 use Rattle.std.specs.Option.{option_or}
 use Rattle.std.specs.Str.{bytes_eq}
@@ -14,11 +14,14 @@ use Rattle.topo_base.specs.declared.rows.LayerRow.{LayerRow}
 use Rattle.topo_base.specs.declared.rows.RelationRow.{RelationRow}
 use Rattle.topo_base.specs.declared.rule.Rule.{Rule}
 use Rattle.topo_model.specs.Drawing.{Drawing, feature_at, feature_id_of, layer_at, layer_id_of}
-use Rattle.topo_model.specs.Layers.{add_element, add_element_on, add_layer, element_rule, is_name_taken, layer_on, new_layer, rem_element, row_for, same_kind, with_element}
+use Rattle.topo_model.specs.Layers.{element_rule, is_name_taken, row_for, same_kind, is_element_listed}
+use Rattle.topo_model.specs.Edits.{add_element, add_element_on, add_layer, layer_on, new_layer, rem_element, with_element}
 use Rattle.topo_model.specs.Outcome.{the_feature, the_layer}
 use Rattle.topo_model.specs.Relations.{insert_row, ordered, same_row}
 use Rattle.topo_model.specs.Rows.{row_at}
 use Rattle.topo_model.specs.Subdivision.{is_above, is_layer_known, is_row_known, is_row_of, names_differ}
+use Rattle.topo_model.specs.Change.{FeatureLists, FeatureUnlists}
+use Rattle.topo_base.specs.declared.rule.Rule.TheVariants.{ElementListed, ElementNotListed}
 use Rattle.topo_model.proofs.Keeping.{Keeps, refused, refuses_else, refuses_or}
 use Rattle.topo_model.proofs.Members.{contains-filtered, contains-found, ids_within}
 use Rattle.topo_model.proofs.NameWords.{all_weaker}
@@ -167,7 +170,7 @@ element_by : (S : Drawing) (n : ℕ) (t : FeatureRow) (l : LayerRow) (x : Pair) 
     → Keeps KeepsRows S (with_element S (row_for t.feature_id l.layer_id x) o)
 element_by S n t l x (Some rule) e ft lt knows = refused KeepsRows S _
 element_by S n t l x None e ft lt knows =
-    refuses_or KeepsRows S _ _ _ (keep S _ (the_feature row.topogeo_id ∷ []) (rows_only S (insert_row row S.relations) each (ascend_put row S.relations (ascend_of S.relations knows.ascend)) knows))
+    refuses_or KeepsRows S (is_element_listed S row) ElementListed (Ok (FeatureLists row)) (keep S _ (the_feature row.topogeo_id ∷ []) (rows_only S (insert_row row S.relations) each (ascend_put row S.relations (ascend_of S.relations knows.ascend)) knows))
   where
     row : RelationRow
     row = row_for t.feature_id l.layer_id x
@@ -219,5 +222,5 @@ less S None x knows = refused KeepsRows S _
 less S (Some t) x knows =
     let row = row_for t.feature_id t.layer_id x in
     let test : RelationRow → Bool = λ r. not (same_row row r) in
-    refuses_or KeepsRows S _ _ _ (keep S _ (the_feature t.feature_id ∷ [])
+    refuses_or KeepsRows S (not (is_element_listed S row)) ElementNotListed (Ok (FeatureUnlists row)) (keep S _ (the_feature t.feature_id ∷ [])
     (rows_only S (filter test S.relations) (λ r c. each_row S knows r (contains-filtered test r S.relations c).0) (ascend_filter test S.relations (ascend_of S.relations knows.ascend)) knows))

@@ -10,16 +10,19 @@ use Rattle.topo_base.specs.declared.rows.NodeRow.{NodeRow}
 use Rattle.topo_base.specs.declared.rule.Rule.TheVariants.{NoFace, SameNode, NotIsolated, PointBlocked, NotInFace, LineEnds, LineNotSimple, LineBlocked, NodeInFeature, EdgeInFeature, FaceInFeature, WrongKind, NameTaken, ElementListed, ElementNotListed, FeatureUsed, NotOnEdge, ClosedEdge, NotJoined, HealSplitsFeature}
 use Rattle.topo_base.specs.declared.edit.Edit.{Edit}
 use Rattle.topo_base.specs.declared.edit.Edit.TheVariants.{AddIsoNode, MoveIsoNode, RemoveIsoNode, AddIsoEdge, RemoveIsoEdge, AddEdgeModFace, AddEdgeNewFaces, RemEdgeModFace, RemEdgeNewFace, ModEdgeSplit, NewEdgesSplit, ModEdgeHeal, NewEdgeHeal, AddLayer, CreateTopoGeom, AddElement, RemElement, DropFeature}
-use Rattle.topo_model.specs.AddEdge.{Division, coming, divided, one_new, two_new, with_parts, face_at_start, face_at_end, add_edge}
+use Rattle.topo_model.specs.AddEdge.{Division, coming, divided, one_new, two_new, face_at_start, face_at_end}
+use Rattle.topo_model.specs.Edits.{with_parts, add_edge, add_iso_node, move_iso_node, remove_iso_node, add_iso_edge, remove_iso_edge, add_layer, new_layer, layer_on, with_feature, create_topo_geom, with_element, add_element_on, add_element, rem_element, drop_feature, merged, remove_edge, split_edge, split_new, split_mod, heal_edges, heal_at, heal_new, heal_mod}
 use Rattle.topo_model.specs.Blocked.{is_blocked, is_blocked_for, is_line_blocked, goes_between}
 use Rattle.topo_model.specs.Direction.{first_direction}
 use Rattle.topo_model.specs.Drawing.{has_face, Drawing, Edge, nothing_drawn, node_id_of, edge_id_of, node_at, edge_at, is_isolated, layer_at, feature_at, is_end_of, has_only}
 use Rattle.topo_model.specs.Faces.{face_at}
 use Rattle.topo_model.specs.HalfEdge.{forward_of, backward_of, half_edges}
-use Rattle.topo_model.specs.IsoEdits.{with_edge, accepts_face, is_given_face, is_in_feature, is_isolated_edge, add_iso_node, move_iso_node, remove_iso_node, add_iso_edge, remove_iso_edge, put_in_face}
+use Rattle.topo_model.specs.IsoEdits.{with_edge, accepts_face, is_given_face, is_in_feature, is_isolated_edge, put_in_face}
 use Rattle.topo_model.specs.Legal.{keeps_limits, is_line_short, is_editor, is_entry, ids_within, journal_length, are_accepted}
 use Rattle.topo_model.specs.Line.{is_simple, on_line, first_vertex, last_vertex, is_line_end, is_inside_line}
 use Rattle.topo_model.specs.Outcome.{Outcome}
+use Rattle.topo_model.specs.Apply.{Decision, carried_out}
+use Rattle.topo_model.specs.Change.{EdgeIsCut, EdgeIsCutAnew, EdgesAreJoined, EdgesAreJoinedAnew}
 use Rattle.topo_model.specs.PlainLaw.{IsPlainInOrder}
 use Rattle.topo_model.specs.Relations.{node_type, edge_type, face_type, lists_feature}
 use Rattle.topo_model.specs.Replay.{drawing_of, after, after_all, edits_of}
@@ -50,8 +53,8 @@ use Rattle.topo_base.specs.declared.rows.FeatureRow.{FeatureRow}
 use Rattle.topo_base.specs.declared.rows.RelationRow.{RelationRow}
 use Rattle.topo_base.specs.declared.kind.Kind.{Kind}
 use Rattle.topo_base.specs.declared.edit.Pair.{Pair}
-use Rattle.topo_model.specs.Layers.{add_layer, new_layer, layer_on, is_name_taken, same_kind, with_feature, create_topo_geom, is_element_listed, with_element, add_element_on, add_element, rem_element, row_for, drop_feature}
-use Rattle.topo_model.specs.RemoveEdge.{renamed, without_faces, merged, remove_edge, have_same_features}
+use Rattle.topo_model.specs.Layers.{is_name_taken, same_kind, is_element_listed, row_for}
+use Rattle.topo_model.specs.RemoveEdge.{renamed, without_faces, have_same_features}
 use Rattle.topo_model.proofs.PlainChanges.{edges_filtered}
 use Rattle.topo_model.proofs.Ordering.{InOrder-filter, InOrder, InOrder-change, InOrder-push}
 use Rattle.ring_laws.proofs.MergedSides.{lessened, merged_with, merged_rings, merged_known, AreMerged, none_merged, one_merged, both_merged, one_renamed, both_renamed}
@@ -59,8 +62,8 @@ use Rattle.topo_base.specs.declared.edit.Entry.{Entry}
 use Rattle.topo_model.specs.Step.{step}
 use Rattle.topo_model.specs.Relation.{SameCoordinates}
 use Rattle.topo_model.specs.Rows.{without_row, with_change}
-use Rattle.topo_model.specs.SplitEdge.{first_part, second_part, split_edge, split_new, split_mod}
-use Rattle.topo_model.specs.HealEdges.{is_closed, is_nothing, common_nodes, healed_node, joined_edge, heal_edges, heal_at, heal_new, heal_mod}
+use Rattle.topo_model.specs.SplitEdge.{first_part, second_part}
+use Rattle.topo_model.specs.HealEdges.{is_closed, is_nothing, common_nodes, healed_node, joined_edge}
 use Rattle.topo_model.proofs.ListTests.{contains_here, contains_there, contains_cases, contains_none}
 use Rattle.topo_model.proofs.PlainSplits.{from_changed, from_both}
 use Rattle.topo_model.proofs.PointTests.{Decides-same_point}
@@ -159,13 +162,12 @@ lone_edge_less S (Some e) h ce =
     })))
 
 -- ---- added edges
-either_is : (S : Drawing) (b : Bool) (x y : Outcome) → (b ≡ true → Keeps KeepsRinged S x) → (b ≡ false → Keeps KeepsRinged S y) → Keeps KeepsRinged S (cond b x y)
+either_is : (S : Drawing) (b : Bool) (c d : Decision) → (b ≡ true → Keeps KeepsRinged S (carried_out S c)) → (b ≡ false → Keeps KeepsRinged S (carried_out S d)) → Keeps KeepsRinged S (carried_out S (cond b c d))
 either_is S true x y h k = h refl
 either_is S false x y h k = k refl
 
-parts : (S T : Drawing) (both : Bool) (e : Edge) → HasRings T → IsKnown T → Contains T.edges e → e.right_face ≡ e.left_face → Keeps KeepsRinged S (with_parts T both e e.left_face)
-parts S T both e rings known there same =
-    let f = e.left_face in
+parts : (both : Bool) (S : Drawing) (a b : NodeRow) (line : List Point) (f : ℕ) → HasRings (with_edge S a b line f) → IsKnown (with_edge S a b line f) → Contains (with_edge S a b line f).edges (coming S a b line f) → Keeps KeepsRinged S (with_parts both S a b line f)
+parts both S a b line f rings known there =
     let hs = half_edges T in
     let left = ring_of hs (forward_of e) in
     let right = ring_of hs (backward_of e) in
@@ -176,11 +178,17 @@ parts S T both e rings known there same =
     accepted KeepsRinged S _ (λ more. made (two_new T f left right) _ 2 (division (two_new T f left right) refl refl refl) (two_listed T f left right known some) more))
     (λ one. accepted KeepsRinged S _ (λ more. made (one_new T f left right) _ 1 (division (one_new T f left right) refl refl refl) (one_listed T f left right known (known.sides e there).0) more)))
   where
+    T : Drawing
+    T = with_edge S a b line f
+
+    e : Edge
+    e = coming S a b line f
+
     made : (d : Division) (faces : List ℕ) (new : ℕ) → IsDividedBy T e d → AreParts T d faces → HasPlainLines (divided T d faces new) → AreRinged (divided T d faces new)
     made d faces new by listed more = record { one_face = divided_rings T d faces new (division_by T e d rings by) more; known = face_divides T d faces new listed known }
 
     division : (d : Division) → e.left_face ≡ d.face → d.left_ring ≡ ring_of (half_edges T) (forward_of e) → d.right_ring ≡ ring_of (half_edges T) (backward_of e) → IsDividedBy T e d
-    division d face l r = record { there = there; left = face; right = same ∙ face; left_ring = l; right_ring = r }
+    division d face l r = record { there = there; left = face; right = face; left_ring = l; right_ring = r }
 
 or_falses : (b c : Bool) → (b || c) ≡ false → (b ≡ false) × (c ≡ false)
 or_falses true c h = absurd (false≢true (sym h))
@@ -218,7 +226,7 @@ new_edge both S (Some a) (Some b) line h long ca cb =
     let plain = edge_more S a b line f (has_plain S h.ordered) (ca a refl) (cb b refl) (passed (goes_between a b line) ends) (passed (is_simple line) simple) falses.0 in
     let more = plain_lines T plain (long_more S.edges e h.lines.long long) in
     let ringed = with_edge_more S a b line f h (ca a refl) (cb b refl) more (refl, at_end) in
-    parts S T both e (rings_from T (ordered_of T plain) more ringed.one_face) ringed.known (Contains-push S.edges e) refl)))
+    parts both S a b line f (rings_from T (ordered_of T plain) more ringed.one_face) ringed.known (Contains-push S.edges e))))
 
 -- ---- removed edges
 less_lines : (S : Drawing) (e : Edge) → IsBefore S → HasPlainLines (lessened S e)
@@ -339,7 +347,7 @@ split anew S None p h ce = refused KeepsRinged S _
 split anew S (Some e) p h ce =
     refuses_else KeepsRinged S (not (is_inside_line p e.geom)) NotOnEdge _ (λ inside.
     let cut = cut_of e p (passed (is_inside_line p e.geom) inside) in
-    either KeepsRinged S anew (split_new S e p) (split_mod S e p)
+    either KeepsRinged S anew (Ok (EdgeIsCutAnew e p)) (Ok (EdgeIsCut e p))
     (accepted KeepsRinged S _ (λ more. split_more S e p S.next_ids.edge (S.next_ids.edge + 1) _ _ _ h (both_new S e p (ce e refl) cut) more))
     (accepted KeepsRinged S _ (λ more. split_more S e p e.edge_id S.next_ids.edge _ _ _ h (one_changed S e p h.lines (ce e refl) cut) more)))
 
@@ -427,7 +435,7 @@ heals_at anew S e f (Some n) h healable =
     let may = healable n refl in
     refuses_else KeepsRinged S (not (have_same_features S edge_type e.edge_id f.edge_id)) HealSplitsFeature _ (λ _.
     refuses_else KeepsRinged S (is_in_feature S node_type n) NodeInFeature _ (λ _.
-    either KeepsRinged S anew (heal_new S e f n) (heal_mod S e f n)
+    either KeepsRinged S anew (Ok (EdgesAreJoinedAnew e f n)) (Ok (EdgesAreJoined e f n))
     (accepted KeepsRinged S _ (λ more. healed_more S n e f S.next_ids.edge _ _ _ h (healed_anew S n e f may) more))
     (accepted KeepsRinged S _ (λ more. healed_more S n e f e.edge_id _ _ _ h (healed_changed S n e f h.lines may) more))))
 

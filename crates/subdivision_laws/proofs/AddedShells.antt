@@ -9,7 +9,7 @@ use Rattle.topo_base.specs.declared.rule.Rule.TheVariants.{SameNode, NotIsolated
 use Rattle.topo_model.specs.Blocked.{is_line_blocked, goes_between}
 use Rattle.topo_model.specs.Drawing.{Drawing, is_isolated}
 use Rattle.topo_model.specs.HalfEdge.{HalfEdge, forward_of, backward_of, half_edges, twin, leaves, same_half_edge, dart_of}
-use Rattle.topo_model.specs.IsoEdits.{add_iso_edge}
+use Rattle.topo_model.specs.Edits.{add_iso_edge}
 use Rattle.topo_model.specs.Line.{is_simple, last_vertex}
 use Rattle.topo_model.specs.Ring.{ring_of, contains_half_edge}
 use Rattle.topo_model.specs.Star.{next_of, or_twin, first_clockwise, leaving}

@@ -5,14 +5,15 @@ use Rattle.std.proofs.lemmas.Bool.{and_parts, eqb-true, eqb-false, false≢true,
 use Rattle.topo_base.specs.Point.{Point, same_point}
 use Rattle.topo_base.specs.declared.rows.NodeRow.{NodeRow}
 use Rattle.topo_base.specs.declared.rule.Rule.TheVariants.{LineEnds, LineNotSimple, LineBlocked}
-use Rattle.topo_model.specs.AddEdge.{face_at_start, face_at_end, add_edge}
+use Rattle.topo_model.specs.AddEdge.{face_at_start, face_at_end}
+use Rattle.topo_model.specs.Edits.{add_edge}
 use Rattle.topo_model.specs.Blocked.{is_line_blocked, goes_between}
 use Rattle.topo_model.specs.Direction.{first_direction}
 use Rattle.topo_model.specs.Drawing.{Drawing}
 use Rattle.topo_model.specs.Faces.{face_after}
 use Rattle.topo_model.specs.HalfEdge.{forward_of, backward_of, half_edges, leaves}
 use Rattle.topo_model.specs.Line.{is_simple, last_vertex}
-use Rattle.topo_model.specs.Outcome.{Outcome}
+use Rattle.topo_model.specs.Apply.{Decision, carried_out}
 use Rattle.topo_model.specs.PlainLaw.{IsPlainInOrder}
 use Rattle.topo_model.specs.Ring.{ring_of, contains_half_edge}
 use Rattle.topo_model.specs.Star.{last_clockwise}
@@ -34,7 +35,7 @@ use Rattle.subdivision_laws.proofs.RingAdded.{AddsRing, faces_below, two_parts, 
 has_plain : (S : Drawing) → IsPlainInOrder S → HasPlain S
 has_plain S h = record { parts = parts_of S h.plain; ids = record { test = h.node_ids }; edge_ids = record { test = h.edge_ids } }
 
-pub either_is : (P : Drawing → Drawing → Type 0) (S : Drawing) (b : Bool) (x y : Outcome) → (b ≡ true → Keeps P S x) → (b ≡ false → Keeps P S y) → Keeps P S (cond b x y)
+pub either_is : (P : Drawing → Drawing → Type 0) (S : Drawing) (b : Bool) (c d : Decision) → (b ≡ true → Keeps P S (carried_out S c)) → (b ≡ false → Keeps P S (carried_out S d)) → Keeps P S (carried_out S (cond b c d))
 either_is P S true x y h k = h refl
 either_is P S false x y h k = k refl
 

@@ -7,7 +7,8 @@ use Rattle.topo_base.specs.declared.rule.Rule.TheVariants.{EdgeInFeature, FaceIn
 use Rattle.topo_model.specs.Drawing.{Drawing, Edge, has_face}
 use Rattle.topo_model.specs.IsoEdits.{is_in_feature}
 use Rattle.topo_model.specs.Relations.{edge_type, face_type, is_among}
-use Rattle.topo_model.specs.RemoveEdge.{renamed, without_faces, merged, remove_edge, have_same_features}
+use Rattle.topo_model.specs.RemoveEdge.{renamed, without_faces, have_same_features}
+use Rattle.topo_model.specs.Edits.{merged, remove_edge}
 use Rattle.topo_model.specs.Subdivision.{face_id_of, rows_in_order}
 use Rattle.topo_model.proofs.Keeping.{Keeps, accepted, refused, refuses_else}
 use Rattle.topo_model.proofs.Members.{contains-filtered}

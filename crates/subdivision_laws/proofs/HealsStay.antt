@@ -1,5 +1,5 @@
 -- Edges that are healed: the steps are the same, with the same faces beside them.
-use Rattle.std.proofs.Common.{◌≡◌, ℕ, ◌≤◌, sym, ◌∙◌, ap, subst, refl, ◌⊎◌, inl, inr, ⊎_elim, Bool, not, ◌||◌, ◌==◌, List, ◌∷◌, ◌++◌, length, Option, Some, None}
+use Rattle.std.proofs.Common.{◌≡◌, ℕ, ◌≤◌, sym, ◌∙◌, ap, subst, refl, ◌⊎◌, inl, inr, ⊎_elim, Bool, not, ◌||◌, ◌==◌, List, ◌∷◌, ◌++◌, length, Option, Some, None, Ok}
 use Rattle.std.specs.Prelude.{reverse}
 use Rattle.std.specs.List.{Contains}
 use Rattle.std.proofs.lemmas.List.{length-reverse}
@@ -10,13 +10,15 @@ use Rattle.topo_base.specs.declared.rows.Counters.{Counters}
 use Rattle.topo_base.specs.declared.rule.Rule.TheVariants.{ClosedEdge, NotJoined, HealSplitsFeature, NodeInFeature}
 use Rattle.topo_model.specs.Drawing.{Drawing, Edge, node_id_of}
 use Rattle.topo_model.specs.HalfEdge.{HalfEdge, forward_of, backward_of, half_edges, twin}
-use Rattle.topo_model.specs.HealEdges.{joined_edge, is_closed, is_nothing, common_nodes, healed_node, heal_edges, heal_at, heal_new, heal_mod}
+use Rattle.topo_model.specs.HealEdges.{joined_edge, is_closed, is_nothing, common_nodes, healed_node}
+use Rattle.topo_model.specs.Edits.{heal_edges, heal_at, heal_new, heal_mod}
 use Rattle.topo_model.specs.IsoEdits.{is_in_feature}
 use Rattle.topo_model.specs.Line.{segments_of, first_vertex, last_vertex, joined}
 use Rattle.topo_model.specs.RemoveEdge.{have_same_features}
 use Rattle.topo_model.specs.Relations.{node_type, edge_type}
 use Rattle.topo_model.specs.Segment.{Segment}
 use Rattle.topo_model.proofs.Crossings.{back}
+use Rattle.topo_model.specs.Change.{EdgesAreJoined, EdgesAreJoinedAnew}
 use Rattle.topo_model.proofs.Keeping.{Keeps, either, accepted, refused, refuses_else}
 use Rattle.topo_model.proofs.LineTurns.{first-reverse, last-reverse, segments-joined}
 use Rattle.topo_model.proofs.Members.{contains-filtered}
@@ -164,7 +166,7 @@ heals_at anew S e f None c may = refused KeepsCovers S _
 heals_at anew S e f (Some n) c may =
     refuses_else KeepsCovers S (not (have_same_features S edge_type e.edge_id f.edge_id)) HealSplitsFeature _ (λ _.
     refuses_else KeepsCovers S (is_in_feature S node_type n) NodeInFeature _ (λ _.
-    either KeepsCovers S anew (heal_new S e f n) (heal_mod S e f n)
+    either KeepsCovers S anew (Ok (EdgesAreJoinedAnew e f n)) (Ok (EdgesAreJoined e f n))
     (accepted KeepsCovers S _ (healed_covers S n e f S.next_ids.edge _ _ _ c (healed_anew S n e f (may n refl))))
     (accepted KeepsCovers S _ (healed_covers S n e f e.edge_id _ _ _ c (healed_changed S n e f (has_plain_lines S c.ringed.rings) (may n refl))))))
 

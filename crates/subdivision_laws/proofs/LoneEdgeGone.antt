@@ -6,7 +6,8 @@ use Rattle.topo_base.specs.declared.rows.NodeRow.{NodeRow}
 use Rattle.topo_base.specs.declared.rule.Rule.TheVariants.{NotIsolated, EdgeInFeature}
 use Rattle.topo_model.specs.Drawing.{Drawing, Edge, edge_id_of, is_end_of, is_isolated}
 use Rattle.topo_model.specs.HalfEdge.{HalfEdge, forward_of, backward_of, half_edges}
-use Rattle.topo_model.specs.IsoEdits.{is_in_feature, is_isolated_edge, remove_iso_edge, put_in_face}
+use Rattle.topo_model.specs.IsoEdits.{is_in_feature, is_isolated_edge, put_in_face}
+use Rattle.topo_model.specs.Edits.{remove_iso_edge}
 use Rattle.topo_model.specs.Line.{segments_of}
 use Rattle.topo_model.specs.Relations.{edge_type}
 use Rattle.topo_model.specs.Rows.{without_row}

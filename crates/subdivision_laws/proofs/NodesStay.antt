@@ -10,7 +10,8 @@ use Rattle.topo_base.specs.declared.rule.Rule.TheVariants.{NoFace, NotIsolated, 
 use Rattle.topo_model.specs.Blocked.{is_blocked, is_blocked_for}
 use Rattle.topo_model.specs.Drawing.{Drawing, is_isolated, node_id_of}
 use Rattle.topo_model.specs.Faces.{face_at}
-use Rattle.topo_model.specs.IsoEdits.{accepts_face, is_given_face, is_in_feature, add_iso_node, move_iso_node, remove_iso_node}
+use Rattle.topo_model.specs.IsoEdits.{accepts_face, is_given_face, is_in_feature}
+use Rattle.topo_model.specs.Edits.{add_iso_node, move_iso_node, remove_iso_node}
 use Rattle.topo_model.specs.Relations.{node_type}
 use Rattle.topo_model.proofs.Keeping.{Keeps, accepted, refused, refuses_else}
 use Rattle.topo_model.proofs.ListTests.{some_same}

@@ -1,5 +1,5 @@
 -- Edges that are split: the steps are the same, or one of them is cut.
-use Rattle.std.proofs.Common.{◌≡◌, ℕ, refl, sym, ◌∙◌, ap, subst, append_assoc, ◌⊎◌, ⊎_elim, Bool, not, List, [], ◌∷◌, ◌++◌, Option, Some, None, ◌+◌}
+use Rattle.std.proofs.Common.{◌≡◌, ℕ, refl, sym, ◌∙◌, ap, subst, append_assoc, ◌⊎◌, ⊎_elim, Bool, not, List, [], ◌∷◌, ◌++◌, Option, Some, None, ◌+◌, Ok}
 use Rattle.std.specs.List.{Contains}
 use Rattle.std.proofs.lemmas.Bool.Decides.{Decides-not}
 use Rattle.std.proofs.lemmas.List.Elements.{Contains-push, Contains-push_cases}
@@ -13,7 +13,9 @@ use Rattle.topo_model.specs.HalfEdge.{forward_of}
 use Rattle.topo_model.specs.Line.{segments_of, is_proper, is_inside_line, line_up_to, line_from}
 use Rattle.topo_model.specs.Relation.{SameCoordinates}
 use Rattle.topo_model.specs.Segment.{Segment}
-use Rattle.topo_model.specs.SplitEdge.{first_part, second_part, split_edge, split_new, split_mod}
+use Rattle.topo_model.specs.SplitEdge.{first_part, second_part}
+use Rattle.topo_model.specs.Edits.{split_edge, split_new, split_mod}
+use Rattle.topo_model.specs.Change.{EdgeIsCut, EdgeIsCutAnew}
 use Rattle.topo_model.proofs.Keeping.{Keeps, either, accepted, refused, refuses_else}
 use Rattle.topo_model.proofs.LineParts.{Cut, cut as cut_line}
 use Rattle.topo_model.proofs.PlainSplits.{new_node, one_point}
@@ -138,6 +140,6 @@ split anew S None p c ce = refused KeepsCovers S _
 split anew S (Some e) p c ce =
     refuses_else KeepsCovers S (not (is_inside_line p e.geom)) NotOnEdge _ (λ inside.
     let parted = cut_of e p (passed (is_inside_line p e.geom) inside) in
-    either KeepsCovers S anew (split_new S e p) (split_mod S e p)
+    either KeepsCovers S anew (Ok (EdgeIsCutAnew e p)) (Ok (EdgeIsCut e p))
     (accepted KeepsCovers S _ (split_covers S e p S.next_ids.edge (S.next_ids.edge + 1) _ _ _ c (both_new S e p (ce e refl) parted)))
     (accepted KeepsCovers S _ (split_covers S e p e.edge_id S.next_ids.edge _ _ _ c (one_changed S e p (has_plain_lines S c.ringed.rings) (ce e refl) parted))))

@@ -4,4 +4,5 @@ pub mod Names
 pub mod Point
 pub mod RationalPoint
 pub mod ScriptLines
+pub mod Stored
 pub mod Within

@@ -1,15 +1,16 @@
-ghost use Rattle.std.specs.Prelude.{◌≡◌, ◌-◌, ◌^◌, ◌<◌, ◌≤◌};
+ghost use Rattle.std.specs.Prelude.{◌≡◌, ◌+◌, ◌-◌, ◌^◌, ◌<◌, ◌≤◌};
 
 /// How far ids, a journal and a source may grow.
 #[derive(Clone, Copy, Debug, PartialEq, Eq)]
 pub struct Limits {
-    /// The greatest id that an edit may make.
+    /// The greatest id that an edit may make. It leaves room for the ids of one edit more, so that an edit can be planned
+    /// before its ids are tested.
     pub max_id: u32,
     /// The most bytes of a journal.
     pub max_journal: u64,
     /// The most bytes of a source.
     pub max_source: u64,
-    ghost ids: { max_id < 2 ^ 32 - 1 },
+    ghost ids: { max_id + 3 < 2 ^ 32 },
     ghost journal: { 8 ≤ max_journal },
 }
 

@@ -10,7 +10,8 @@ use Rattle.topo_model.specs.Rows.{without_row, with_change}
 use Rattle.topo_model.specs.Drawing.{Drawing, Edge, node_id_of, edge_id_of, is_end_of, has_only}
 use Rattle.topo_model.specs.HalfEdge.{HalfEdge, forward_of, backward_of}
 use Rattle.topo_model.specs.Outcome.{the_node, the_edge}
-use Rattle.topo_model.specs.HealEdges.{heal_edges, heal_at, heal_mod, heal_new, healed_node, joined_edge, away_from, common_nodes, is_closed, is_nothing}
+use Rattle.topo_model.specs.HealEdges.{healed_node, joined_edge, away_from, common_nodes, is_closed, is_nothing}
+use Rattle.topo_model.specs.Edits.{heal_edges, heal_at, heal_mod, heal_new}
 use Rattle.topo_model.proofs.Keeping.{Keeps, refuses_or, refuses_else, either, refused}
 use Rattle.topo_model.proofs.Ordering.{InOrder-push, InOrder-filter, InOrder-change}
 use Rattle.topo_model.proofs.ListTests.{Decides-any, contains_cases, contains_none}

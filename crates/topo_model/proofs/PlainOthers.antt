@@ -1,5 +1,5 @@
 -- Added, removed and split edges, layers and features keep a drawing plain.
-use Rattle.std.proofs.Common.{◌≡◌, ℕ, ◌+◌, refl, subst, arith, append_assoc, Bool, true, false, cond, not, ◌||◌, ◌==◌, List, [], ◌∷◌, ◌++◌, Option, Some, None}
+use Rattle.std.proofs.Common.{◌≡◌, ℕ, ◌+◌, refl, subst, arith, append_assoc, Bool, true, false, cond, not, ◌||◌, ◌==◌, List, [], ◌∷◌, ◌++◌, Option, Some, None, Ok}
 use Rattle.std.specs.List.{Contains}
 use Rattle.topo_base.specs.Point.{Point}
 use Rattle.topo_base.specs.declared.rule.Rule.{Rule}
@@ -17,16 +17,17 @@ use Rattle.topo_model.specs.HalfEdge.{forward_of, backward_of, half_edges}
 use Rattle.topo_model.specs.Outcome.{the_face}
 use Rattle.topo_model.specs.Blocked.{is_line_blocked, goes_between}
 use Rattle.topo_model.specs.IsoEdits.{with_edge}
-use Rattle.topo_model.specs.AddEdge.{add_edge, with_parts, face_at_start, face_at_end, coming, divided, divided_node, divided_edge, divided_side, Division}
-use Rattle.topo_model.specs.RemoveEdge.{remove_edge, merged_into, merged_anew, without_edge, without_faces, renamed, renamed_node, renamed_edge}
-use Rattle.topo_model.specs.Layers.{add_layer, layer_on, create_topo_geom, with_feature, add_element, add_element_on, with_element, rem_element, drop_feature}
+use Rattle.topo_model.specs.AddEdge.{face_at_start, face_at_end, coming, divided, divided_node, divided_edge, divided_side, Division}
+use Rattle.topo_model.specs.Edits.{add_edge, with_parts, remove_edge, merged_into, merged_anew, add_layer, layer_on, create_topo_geom, with_feature, add_element, add_element_on, with_element, rem_element, drop_feature, split_edge, split_new, split_mod}
+use Rattle.topo_model.specs.RemoveEdge.{without_edge, without_faces, renamed, renamed_node, renamed_edge}
+use Rattle.topo_model.specs.Change.{EdgeIsCut, EdgeIsCutAnew}
 use Rattle.topo_model.proofs.Keeping.{Keeps, refuses_or, refuses_else, either, refused}
 use Rattle.topo_model.proofs.Ordering.{InOrder, InOrder-push, InOrder-filter, InOrder-map, InOrder-change}
 use Rattle.topo_model.proofs.BlockedTests.{at_from, Decides-inside_line}
 use Rattle.topo_model.proofs.Members.{ids_differ}
 use Rattle.topo_model.proofs.LineParts.{cut}
 use Rattle.topo_model.proofs.PlainSplits.{IsSplit, new_node, edge_split, from_changed, from_both}
-use Rattle.topo_model.specs.SplitEdge.{split_edge, split_new, split_mod, first_part, second_part}
+use Rattle.topo_model.specs.SplitEdge.{first_part, second_part}
 use Rattle.std.proofs.lemmas.Bool.{and_parts}
 use Rattle.topo_model.proofs.PlainChanges.{nodes_mapped, edges_filtered, sides_changed}
 use Rattle.topo_model.proofs.PlainStaying.{HasPlain, KeepsPlain, keep, passed, edge_more}
@@ -53,10 +54,10 @@ parts_made T d faces new h =
       edge_ids = InOrder-map edge_id_of 0 T.next_ids.edge (divided_edge d hs) T.edges (λ e. refl) h.edge_ids;
     }
 
-parts : (T : Drawing) (both : Bool) (e : Edge) (f : ℕ) (S : Drawing) → HasPlain T → Keeps KeepsPlain S (with_parts T both e f)
+parts : (both : Bool) (S : Drawing) (a b : NodeRow) (line : List Point) (f : ℕ) → HasPlain (with_edge S a b line f) → Keeps KeepsPlain S (with_parts both S a b line f)
 unfolding Keeps
-parts T both e f S h =
-    let made : (d : Division) (faces : List ℕ) (new : ℕ) → HasPlain (divided T d faces new) = λ d faces new. parts_made T d faces new h in
+parts both S a b line f h =
+    let made : (d : Division) (faces : List ℕ) (new : ℕ) → HasPlain (divided (with_edge S a b line f) d faces new) = λ d faces new. parts_made (with_edge S a b line f) d faces new h in
     search (keeping, h, made)
 
 or_false : (b c : Bool) → (b || c) ≡ false → b ≡ false
@@ -72,7 +73,7 @@ new_edge both S (Some a) (Some b) line h ca cb =
     refuses_else KeepsPlain S (not (goes_between a b line)) LineEnds _ (λ ends.
     refuses_else KeepsPlain S (not (is_simple line)) LineNotSimple _ (λ simple.
     refuses_else KeepsPlain S (is_line_blocked S line || not (face_at_end S b line == f)) LineBlocked _ (λ free.
-    parts (with_edge S a b line f) both (coming S a b line f) f S
+    parts both S a b line f
     (edge_more S a b line f h (ca a refl) (cb b refl) (passed (goes_between a b line) ends) (passed (is_simple line) simple) (or_false _ _ free)))))
 
 -- ---- removed edges
@@ -136,7 +137,7 @@ split anew S (Some e) p h c =
     (subst (InOrder edge_id_of 0 (new + 1 + 1)) (append_assoc (without_row edge_id_of S.edges e.edge_id) (first_part e n p new ∷ []) (second_part e n p (new + 1) ∷ [])) both) in
     refuses_else KeepsPlain S (not (is_inside_line p e.geom)) NotOnEdge _ (λ inside.
     let g = cut_at S e p h there (passed (is_inside_line p e.geom) inside) in
-    either KeepsPlain S anew (split_new S e p) (split_mod S e p)
+    either KeepsPlain S anew (Ok (EdgeIsCutAnew e p)) (Ok (EdgeIsCut e p))
     (keep S _ _ (record { parts = edge_split S.nodes S.edges _ e p n new (new + 1) g (from_both S.edges e p n new (new + 1)); ids = nodes; edge_ids = two }))
     (keep S _ _ (record {
       parts = edge_split S.nodes S.edges _ e p n e.edge_id new g (from_changed S.edges e p n new (ids_differ edge_id_of 0 new S.edges h.edge_ids) there);

@@ -14,7 +14,8 @@ use Rattle.topo_model.specs.Drawing.{Drawing, Edge, node_id_of, edge_id_of, is_e
 use Rattle.topo_model.specs.Faces.{face_at}
 use Rattle.topo_model.specs.Relations.{node_type, edge_type}
 use Rattle.topo_model.specs.Blocked.{is_blocked, is_blocked_for, is_line_blocked, goes_between}
-use Rattle.topo_model.specs.IsoEdits.{add_iso_node, move_iso_node, remove_iso_node, add_iso_edge, remove_iso_edge, accepts_face, is_given_face, is_in_feature, with_node, with_edge, put_in_face, put_at, is_isolated_edge}
+use Rattle.topo_model.specs.IsoEdits.{accepts_face, is_given_face, is_in_feature, with_node, with_edge, put_in_face, put_at, is_isolated_edge}
+use Rattle.topo_model.specs.Edits.{add_iso_node, move_iso_node, remove_iso_node, add_iso_edge, remove_iso_edge}
 use Rattle.topo_model.specs.AddEdge.{coming}
 use Rattle.topo_model.proofs.Keeping.{Keeps, refuses_else, accepted, refused}
 use Rattle.topo_model.proofs.Ordering.{InOrder, InOrder-push, InOrder-filter, InOrder-change}

@@ -14,7 +14,7 @@ use Rattle.topo_base.specs.declared.rule.Rule.TheVariants.{NoNode, NoEdge, NoFac
 use Rattle.topo_model.specs.Rows.{without_row}
 use Rattle.topo_model.specs.Drawing.{Drawing, layer_at, feature_at, feature_id_of, has_node, has_edge, has_face}
 use Rattle.topo_model.specs.Relations.{insert_row, ordered, lists_feature, same_row}
-use Rattle.topo_model.specs.Outcome.{Outcome, the_layer, the_feature}
+use Rattle.topo_model.specs.Outcome.{Accepted, the_layer, the_feature}
 
 -- two layers have one type
 abbrev pub same_kind : Kind → Kind → Bool
@@ -24,28 +24,16 @@ same_kind a b = kind_number a == kind_number b
 abbrev pub is_name_taken : Drawing → List ℕ → Bool
 is_name_taken S name = list_any (λ (l : LayerRow). bytes_eq l.name name) S.layers
 
-abbrev pub with_layer : Drawing → List ℕ → Kind → Option ℕ → ℕ → Outcome
-with_layer S name kind child level =
+abbrev pub with_layer_done : Drawing → List ℕ → Kind → Option ℕ → ℕ → Accepted
+with_layer_done S name kind child level =
     let new = S.next_ids.layer in
-    Ok (record {
+    record {
       drawing = record S {
         layers = S.layers ++ record { layer_id = new; level = level; child_id = child; feature_type = kind; name = name } ∷ [];
         next_ids = record (S.next_ids) { layer = new + 1 };
       };
       ids = the_layer new ∷ [];
-    })
-
-abbrev pub layer_on : Drawing → List ℕ → Kind → Option LayerRow → Outcome
-layer_on S name kind None = Err NoLayer
-layer_on S name kind (Some child) =
-    if not (same_kind child.feature_type kind) then Err WrongKind else with_layer S name kind (Some child.layer_id) (child.level + 1)
-
-abbrev pub new_layer : Drawing → List ℕ → Kind → Option ℕ → Outcome
-new_layer S name kind None = with_layer S name kind None 0
-new_layer S name kind (Some child) = layer_on S name kind (layer_at S child)
-
-abbrev pub add_layer : Drawing → List ℕ → Kind → Option ℕ → Outcome
-add_layer S name kind child = if is_name_taken S name then Err NameTaken else new_layer S name kind child
+    }
 
 -- the rule that refuses an element in a layer, by its type there; none where it may be listed
 abbrev pub missing : Bool → Rule → Option Rule
@@ -84,58 +72,18 @@ elements_rule S layer earlier (x ∷ xs) =
 abbrev pub row_for : ℕ → ℕ → Pair → RelationRow
 row_for t l x = record { topogeo_id = t; layer_id = l; element_id = x.id; element_type = x.element_type }
 
-abbrev pub with_feature : Drawing → LayerRow → List Pair → Option Rule → Outcome
-with_feature S layer xs (Some rule) = Err rule
-with_feature S layer xs None =
+abbrev pub with_feature_done : Drawing → LayerRow → List Pair → Accepted
+with_feature_done S layer xs =
     let new = S.next_ids.feature in
-    Ok (record {
+    record {
       drawing = record S {
         features = S.features ++ record { feature_id = new; layer_id = layer.layer_id } ∷ [];
         relations = S.relations ++ ordered (map (row_for new layer.layer_id) xs);
         next_ids = record (S.next_ids) { feature = new + 1 };
       };
       ids = the_feature new ∷ [];
-    })
-
-abbrev pub create_topo_geom : Drawing → Option LayerRow → List Pair → Outcome
-create_topo_geom S None xs = Err NoLayer
-create_topo_geom S (Some layer) xs = with_feature S layer xs (elements_rule S layer [] xs)
+    }
 
 -- addelement
 abbrev pub is_element_listed : Drawing → RelationRow → Bool
 is_element_listed S row = list_any (same_row row) S.relations
-
-abbrev pub with_element : Drawing → RelationRow → Option Rule → Outcome
-with_element S row (Some rule) = Err rule
-with_element S row None =
-    if is_element_listed S row then Err ElementListed
-    else Ok (record { drawing = record S { relations = insert_row row S.relations }; ids = the_feature row.topogeo_id ∷ [] })
-
-abbrev pub add_element_on : Drawing → FeatureRow → Option LayerRow → Pair → Outcome
-add_element_on S t None x = Err NoFeature
-add_element_on S t (Some layer) x = with_element S (row_for t.feature_id layer.layer_id x) (element_rule S layer x)
-
-abbrev pub add_element : Drawing → Option FeatureRow → Pair → Outcome
-add_element S None x = Err NoFeature
-add_element S (Some t) x = add_element_on S t (layer_at S t.layer_id) x
-
--- remelement
-abbrev pub rem_element : Drawing → Option FeatureRow → Pair → Outcome
-rem_element S None x = Err NoFeature
-rem_element S (Some t) x =
-    let row = row_for t.feature_id t.layer_id x in
-    if not (is_element_listed S row) then Err ElementNotListed
-    else Ok (record { drawing = record S { relations = filter (λ r. not (same_row row r)) S.relations }; ids = the_feature t.feature_id ∷ [] })
-
--- dropfeature
-abbrev pub drop_feature : Drawing → Option FeatureRow → Outcome
-drop_feature S None = Err NoFeature
-drop_feature S (Some t) =
-    if list_any (lists_feature S t.feature_id) S.relations then Err FeatureUsed
-    else Ok (record {
-      drawing = record S {
-        features = without_row feature_id_of S.features t.feature_id;
-        relations = filter (λ (r : RelationRow). not (r.topogeo_id == t.feature_id)) S.relations;
-      };
-      ids = the_feature t.feature_id ∷ [];
-    })

@@ -13,7 +13,8 @@ use Rattle.topo_base.specs.declared.rows.RelationRow.{RelationRow}
 use Rattle.topo_base.specs.declared.write.RowId.TheVariants.{Old}
 use Rattle.topo_base.specs.declared.write.RowWrite.TheVariants.{AddFeature}
 use Rattle.topo_model.specs.Drawing.{Drawing, feature_id_of}
-use Rattle.topo_model.specs.Layers.{row_for, with_feature}
+use Rattle.topo_model.specs.Layers.{row_for}
+use Rattle.topo_model.specs.Edits.{with_feature}
 use Rattle.topo_model.specs.Outcome.{the_feature}
 use Rattle.topo_model.specs.Relations.{insert_row, ordered, row_before, same_row}
 use Rattle.topo_model.specs.Rows.{has_row}

@@ -8,7 +8,7 @@ use Rattle.topo_base.specs.declared.write.RowId.TheVariants.{Old}
 use Rattle.topo_base.specs.declared.write.RowWrite.{RowWrite}
 use Rattle.topo_base.specs.declared.write.RowWrite.TheVariants.{DropFeature}
 use Rattle.topo_model.specs.Drawing.{Drawing, feature_at, feature_id_of}
-use Rattle.topo_model.specs.Layers.{drop_feature}
+use Rattle.topo_model.specs.Edits.{drop_feature}
 use Rattle.topo_model.specs.Outcome.{the_feature}
 use Rattle.topo_model.specs.Relations.{lists_feature, same_row}
 use Rattle.topo_model.specs.Rows.{without_row}

@@ -1,7 +1,7 @@
 // Features that come.
 ghost use Rattle.std.specs.Prelude.{◌≡◌, ◌+◌, ◌<◌, ◌^◌, ◌∷◌, ◌++◌, [], IfOk, IsTrue, OnOk, None};
 ghost use Rattle.topo_model.specs.Drawing.{layer_at};
-ghost use Rattle.topo_model.specs.Layers.{create_topo_geom, with_feature as feature_comes};
+ghost use Rattle.topo_model.specs.Edits.{with_feature as feature_comes, create_topo_geom};
 ghost use Rattle.topo_model.specs.Tables.{drawn};
 ghost use Rattle.topo_model.specs.Writable.{has_layer_row};
 ghost use Rattle.layer_tree.specs.Answers.{AnswersOutcome, Follows};

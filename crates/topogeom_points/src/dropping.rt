@@ -3,7 +3,7 @@ ghost use Rattle.std.specs.Prelude.{◌≡◌, ◌==◌, ◌∷◌, ◌++◌, []
 ghost use Rattle.std.specs.List.{list_any};
 ghost use Rattle.topo_base.specs.declared.rows.RelationRow.{RelationRow as RowValue};
 ghost use Rattle.topo_model.specs.Drawing.{feature_at};
-ghost use Rattle.topo_model.specs.Layers.{drop_feature as drops_feature};
+ghost use Rattle.topo_model.specs.Edits.{drop_feature as drops_feature};
 ghost use Rattle.topo_model.specs.Relations.{lists_feature as is_lister};
 ghost use Rattle.topo_model.specs.Tables.{drawn};
 ghost use Rattle.topo_model.specs.Writable.{has_feature_row};

@@ -2,7 +2,8 @@
 ghost use Rattle.std.specs.Prelude.{◌≡◌, IfOk, IsTrue, true};
 ghost use Rattle.std.specs.List.{list_any};
 ghost use Rattle.topo_model.specs.Drawing.{feature_at, layer_at};
-ghost use Rattle.topo_model.specs.Layers.{add_element as adds_element, element_rule as rule_of_element, is_element_listed as is_listed_in, rem_element as removes_element, row_for, with_element};
+ghost use Rattle.topo_model.specs.Layers.{element_rule as rule_of_element, is_element_listed as is_listed_in, row_for};
+ghost use Rattle.topo_model.specs.Edits.{add_element as adds_element, rem_element as removes_element, with_element};
 ghost use Rattle.topo_model.specs.Relations.{same_row};
 ghost use Rattle.topo_model.specs.Tables.{drawn};
 ghost use Rattle.topo_model.specs.Writable.{has_feature_row, has_layer_row};

@@ -3,7 +3,7 @@ use Rattle.std.specs.List.{Contains}
 use Rattle.topo_base.specs.declared.rows.EdgeRow.{EdgeRow}
 use Rattle.topo_base.specs.declared.rule.Rule.TheVariants.{NoEdge, EdgeInFeature, FaceInFeature}
 use Rattle.topo_model.specs.Drawing.{edge_at}
-use Rattle.topo_model.specs.RemoveEdge.{remove_edge}
+use Rattle.topo_model.specs.Edits.{remove_edge}
 use Rattle.topo_model.specs.Rows.{row_at}
 use Rattle.topo_model.specs.Tables.{Tables, drawn, drawn_edge}
 use Rattle.topo_model.specs.Writes.{edge_row_id}

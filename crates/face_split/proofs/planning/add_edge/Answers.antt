@@ -1,6 +1,6 @@
 use Rattle.std.proofs.Common.{◌≡◌, Some, Ok, sym, ◌∙◌, subst}
 use Rattle.topo_base.specs.declared.rows.NodeRow.{NodeRow}
-use Rattle.topo_model.specs.AddEdge.{add_edge}
+use Rattle.topo_model.specs.Edits.{add_edge}
 use Rattle.topo_model.specs.Drawing.{node_at}
 use Rattle.topo_model.specs.PlainLaw.{IsPlainInOrder}
 use Rattle.topo_model.specs.Tables.{Tables, drawn}

@@ -3,7 +3,7 @@ use Rattle.std.specs.List.{list_any}
 use Rattle.topo_base.specs.declared.rows.FeatureRow.{FeatureRow}
 use Rattle.topo_base.specs.declared.rows.RelationRow.{RelationRow}
 use Rattle.topo_model.specs.Drawing.{feature_at, feature_id_of}
-use Rattle.topo_model.specs.Layers.{drop_feature}
+use Rattle.topo_model.specs.Edits.{drop_feature}
 use Rattle.topo_model.specs.Outcome.{Outcome}
 use Rattle.topo_model.specs.Relations.{lists_feature}
 use Rattle.topo_model.specs.Tables.{Tables, drawn}
