@@ -9,7 +9,8 @@ use Rattle.topo_model.specs.Journal.{AreEntries, IsHeaded, IsNoJournalYet, Stand
 use Rattle.topo_journal.specs.Bytes.{Legal, Stands, History, Bad, read_gates, read}
 use Rattle.topo_journal.specs.Kept.{AreBytes}
 use Rattle.topo_journal.specs.Plain.{has_name}
-use Rattle.topo_journal.specs.Entries.{spellings, TestsEntries, ReadsEntries}
+use Rattle.topo_journal.specs.Entries.{spellings, ReadsEntries}
+use Rattle.topo_journal.proofs.EntryTests.{TestsEntries}
 use Rattle.topo_journal.proofs.Reading.{behind_header}
 use Rattle.topo_journal.proofs.Created.{not_yet_stands, short_not_yet, shut_not_yet}
 use Rattle.topo_journal.proofs.Parsed.{named, tail_bytes}

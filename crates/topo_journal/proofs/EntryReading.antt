@@ -17,7 +17,8 @@ use Rattle.topo_model.specs.Answers.{Bounds}
 use Rattle.topo_model.specs.Journal.{IsFramed, next_gate, may_stand, AreEntries, IsBadGate, IsBadAfter}
 use Rattle.topo_journal.specs.Bytes.{Legal, Follow, AreLegal, number, frame, frames, Reading, History, Bad, read_gates}
 use Rattle.topo_journal.specs.Kept.{AreBytes, gate_behind}
-use Rattle.topo_journal.specs.Entries.{spellings, AreSpelled, TestsEntries}
+use Rattle.topo_journal.specs.Entries.{spellings, AreSpelled}
+use Rattle.topo_journal.proofs.EntryTests.{TestsEntries}
 use Rattle.topo_journal.proofs.Reading.{number-bytes, closed_gate, open_gate}
 use Rattle.topo_journal.proofs.Parsed.{bytes-number, tail_bytes, short_bad, bad_zero, bad_none}
 use Rattle.topo_journal.proofs.Scans.{grown}

@@ -10,5 +10,6 @@ pub mod Scans
 pub mod Headers
 pub mod Adopting
 pub mod EntryFrames
+pub mod EntryTests
 pub mod EntryReading
 pub mod EntryJournals

@@ -1,5 +1,5 @@
 -- How a journal of bodies is a journal of entries.
-use Rattle.std.specs.Prelude.{◌≡◌, ℕ, true, IsTrue, List, map}
+use Rattle.std.specs.Prelude.{◌≡◌, ℕ, Bool, false, IsTrue, List, [], ◌∷◌, map, Option, Some, None, option_and_then}
 use Rattle.std.specs.List.{list_all}
 use Rattle.topo_base.specs.declared.edit.Entry.{Entry}
 use Rattle.topo_model.specs.Replay.{replay}
@@ -8,6 +8,7 @@ use Rattle.topo_model.specs.InRange.{is_spelled}
 use Rattle.topo_model.specs.Spelling.{entry_bytes, frame_bytes}
 use Rattle.topo_model.specs.Answers.{Bounds}
 use Rattle.topo_model.specs.Journal.{may_stand, StandsFor, IsBadAt}
+use Rattle.entry_codec.specs.Reading.{entry_in}
 use Rattle.topo_journal.specs.Bytes.{Legal, AreLegal, Stands, read, Bad}
 use Rattle.topo_journal.specs.Kept.{AreBytes, IsFrame, body_in, gate_behind}
 
@@ -23,13 +24,22 @@ AreSpelled history = IsTrue (list_all is_spelled history)
 abbrev pub MayFollow : Bounds → List Entry → Entry → Type 0
 MayFollow m history x = IsTrue (is_spelled x) × IsTrue (may_stand m (replay history) (gate_behind (spellings history)) x)
 
--- the test takes a body behind the spellings of entries exactly where it spells an entry that may follow them
-pub record TestsEntries (m : Bounds) (legal : Legal) : Type 0 where
-  pub takes : (history : List Entry) (x : Entry) → AreSpelled history → MayFollow m history x → legal (spellings history) (entry_bytes x) ≡ true
-  pub only : (history : List Entry) (body : List ℕ) → AreSpelled history → legal (spellings history) body ≡ true
-      → (x : Entry) × (entry_bytes x ≡ body) × MayFollow m history x
+-- the entries whose spellings these bodies are
+abbrev pub entries_in : List (List ℕ) → Option (List Entry)
+entries_in [] = Some []
+entries_in (body ∷ bodies) = option_and_then (λ x. option_and_then (λ xs. Some (x ∷ xs)) (entries_in bodies)) (entry_in body)
 
--- by such a test bytes stand for bodies exactly where they stand for the entries that these spell
+-- an entry is there, and it may stand behind these bodies of a history
+abbrev pub is_next : Bounds → List (List ℕ) → Option (List Entry) → Option Entry → Bool
+is_next m bodies None x = false
+is_next m bodies (Some history) None = false
+is_next m bodies (Some history) (Some x) = may_stand m (replay history) (gate_behind bodies) x
+
+-- the test of a journal of entries: the bodies before are spellings of entries, and this one of an entry that may stand behind them
+unfoldable pub legal_entry : Bounds → Legal
+legal_entry m before body = is_next m before (entries_in before) (entry_in body)
+
+-- by this test bytes stand for bodies exactly where they stand for the entries that these spell
 pub record ReadsEntries (m : Bounds) (legal : Legal) : Type 0 where
   pub stands : (bytes : List ℕ) (history : List Entry) → StandsFor m bytes history → Stands legal bytes (spellings history)
   pub entries : (bytes : List ℕ) (bodies : List (List ℕ)) → AreBytes bytes → Stands legal bytes bodies
