@@ -1,4 +1,4 @@
-ghost use Rattle.std.specs.Prelude.{◌≡◌, ◌⊎◌, ◌≤◌, ◌+◌, ◌++◌, [], ◌∷◌, ⊤, ◌==◌, length, take, drop, true, false, IsTrue, IsErr, OnOk, OnErr, IfOk};
+ghost use Rattle.std.specs.Prelude.{◌≡◌, ◌⊎◌, ◌≤◌, ◌+◌, ◌++◌, [], ◌∷◌, ⊤, ◌==◌, ◌<◌, ◌^◌, ℕ, List, length, take, drop, vec_capacity, true, false, IsTrue, IsErr, OnOk, OnErr};
 ghost use Rattle.std.specs.List.{list_any};
 ghost use Rattle.std.proofs.Props.{props};
 ghost use Rattle.topo_io.specs.Causes.{next_count, HasCause};
@@ -12,7 +12,6 @@ use crate::call::{Call, Called};
 use crate::call_record::CallRecord;
 use crate::{Disk, Failed};
 use std::alloc::{AllocError, Global};
-use std::mem;
 
 /// A disk in memory that keeps a record of its calls. A call fails where its number is listed, or where it finds no
 /// memory; a failed call changes nothing but the record. What a crash may leave is what the record says: each range
@@ -20,27 +19,37 @@ use std::mem;
 #[derive(Drop)]
 pub struct MemDisk {
     alloc: Global,
-    // what it held before the first write that succeeded
+    // what it held at first, kept by the first write
     first: Option<Vec<u8>>,
     bytes: Vec<u8>,
     calls: CallRecord,
     ghost reached: { IsReached (after_all (fresh (start first bytes.items)) calls.calls.items) bytes.items } by { Prim.hlevel props },
 }
 
-// The bytes after a write.
-fn overwritten(alloc: Global, old: &[u8], at: usize, bytes: &[u8]) -> Result<Vec<u8>, AllocError>
-    requires { at ≤ length old.now }
-    ensures { IfOk result (λ v. v.items ≡ take at old.now ++ bytes.now ++ drop (at + length bytes.now) old.now) }
+// Keeps a copy of the bytes, where none is kept yet: what is written later changes nothing of what the disk held first.
+fn keep_first(alloc: Global, first: &mut Option<Vec<u8>>, bytes: &[u8]) -> Result<(), AllocError>
+    ensures kept { OnOk result ((later : List ℕ) → start first.new later ≡ start first.old bytes.now) }
+    ensures same { OnErr result (first.new ≡ first.old) }
 {
-    let mut next = old[..at].to_vec(alloc)?;
-    next.extend_from_slice(bytes)?;
-    if bytes.len() < old.len() - at {
-        next.extend_from_slice(&old[at + bytes.len()..])?;
+    if first.is_none() {
+        *first = Some(bytes.to_vec(alloc)?);
     }
-    Ok(next)
+    Ok(())
 }
 
-// Writes over the bytes and records the call, or does neither.
+// Writes over the bytes and past their end, in place. There is room.
+fn overwrite(bytes: &mut Vec<u8>, at: usize, new: &[u8])
+    requires within { at ≤ length bytes.old.items }
+    requires room { at + length new.now ≤ vec_capacity bytes.old }
+    ensures { bytes.new.items ≡ take at bytes.old.items ++ new.now ++ drop (at + length new.now) bytes.old.items }
+{
+    let over = new.len().min(bytes.len() - at);
+    let (inside, past) = new.split_at(over);
+    bytes[at..at + over].copy_from_slice(inside);
+    bytes.extend_from_slice(past).unwrap();
+}
+
+// Writes over the bytes and records the call, or does neither. All memory is taken before anything is written.
 fn write_over(
     alloc: Global,
     calls: &mut CallRecord,
@@ -49,7 +58,8 @@ fn write_over(
     at: u64,
     new: &[u8],
 ) -> Result<(), Failed>
-    requires { at ≤ length bytes.old.items }
+    requires within { at ≤ length bytes.old.items }
+    requires end { at + length new.now < 2 ^ 64 }
     ensures went { OnOk result ((v : _) × (v.items ≡ new.now) × (calls.new.calls.items ≡ calls.old.calls.items ++ record { call = Write at v; failed = false } ∷ [])) }
     ensures written { OnOk result (bytes.new.items ≡ take at bytes.old.items ++ new.now ++ drop (at + length new.now) bytes.old.items) }
     ensures failed { OnErr result ((calls.new.calls.items ≡ calls.old.calls.items) ⊎ ((call : Call) × (calls.new.calls.items ≡ calls.old.calls.items ++ record { call = call; failed = true } ∷ []))) }
@@ -61,14 +71,15 @@ fn write_over(
     let Ok(copy) = new.to_vec(alloc) else {
         return Err(calls.fault());
     };
-    let Ok(next) = overwritten(alloc, bytes, at as usize, new) else {
+    let Ok(()) = keep_first(alloc, first, bytes) else {
+        return Err(calls.fault());
+    };
+    let more = (at as usize + new.len()).saturating_sub(bytes.len());
+    let Ok(()) = bytes.reserve(more) else {
         return Err(calls.fault());
     };
     calls.add(Call::Write { at, bytes: copy })?;
-    let old = mem::replace(bytes, next);
-    if first.is_none() {
-        *first = Some(old);
-    }
+    overwrite(bytes, at as usize, new);
     Ok(())
 }
 
