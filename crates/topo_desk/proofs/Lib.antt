@@ -1,0 +1,7 @@
+pub mod SpentIds
+pub mod Entering
+pub mod PlannedOn
+pub mod Boards
+pub mod Laid
+pub mod Moments
+pub mod Desks

@@ -1,0 +1,26 @@
+use Rattle.std.proofs.Common.{ap, sym, subst, ◌∙◌}
+use Rattle.topo_model.specs.Tables.{tables_of}
+use Rattle.topo_desk.specs.Boarded.{Boarded, bounds_of}
+use Rattle.edit_plan.specs.Ready.{IsReady}
+use Rattle.topo_desk.proofs.Entering.{legal_ready}
+use Rattle.topo_desk.proofs.Boards.{drawing_is, planned_on, refused_on}
+use Rattle.topo_desk.proofs.board.Board.plan.Goals as goal
+
+pub plan_on-requires-clause-ready : goal.plan_on-requires-clause-ready
+plan_on-requires-clause-ready g c =
+    let b = c.self.inside in
+    subst IsReady (sym (drawing_is b.tables.rows b.history.entries c.self.invariant.stands)) (legal_ready (bounds_of b.limits) b.history.entries b.limits.ids c.self.invariant.legal)
+
+pub plan_on-requires-clause-stands : goal.plan_on-requires-clause-stands
+plan_on-requires-clause-stands g c =
+    let b = c.self.inside in
+    c.self.invariant.stands ∙ ap tables_of (sym (drawing_is b.tables.rows b.history.entries c.self.invariant.stands))
+
+pub returns-clause-planned : goal.returns-clause-planned
+returns-clause-planned g c =
+    planned_on c.self.inside.tables.rows c.self.inside.history.entries c.args.self.now.history c.args.edit c.plan_on.result c.self.invariant.stands (ap (λ (b : Boarded). b.history) c.self.view_is) c.plan_on.ensures.planned
+
+pub returns-clause-refused : goal.returns-clause-refused
+returns-clause-refused g c =
+    refused_on c.self.inside.tables.rows c.self.inside.history.entries c.args.self.now.history c.args.self.now.bounds c.len.result c.args.editor c.args.edit c.plan_on.result
+    c.self.invariant.stands (ap (λ (b : Boarded). b.history) c.self.view_is) c.len.ensures c.plan_on.ensures.refused

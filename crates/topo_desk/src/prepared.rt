@@ -1,0 +1,57 @@
+// An edit that may be entered: what there is to write and to answer.
+ghost use Rattle.std.specs.Prelude.{◌≡◌, length, IfOk, OnOk, IsTrue};
+ghost use Rattle.topo_model.specs.InRange.{is_spelled};
+ghost use Rattle.topo_model.specs.Legal.{keeps_limits};
+ghost use Rattle.topo_model.specs.Spelling.{frame_bytes};
+
+use entry_codec::framed;
+use read_set::Plan;
+use std::alloc::Global;
+use topo_base::{Entry, Ids, Memory};
+use topo_tables::Writes;
+
+/// An entry, the row writes and the reply's ids of its plan, and its frame in a journal.
+#[derive(Drop)]
+pub(crate) struct Prepared {
+    pub(crate) entry: Entry,
+    pub(crate) writes: Writes,
+    pub(crate) ids: Ids,
+    pub(crate) frame: Vec<u8>,
+}
+
+impl Prepared {
+    /// The parts of a plan with the frame of its entry.
+    pub(crate) fn of(alloc: Global, plan: Plan) -> Result<Prepared, Memory>
+        requires { IsTrue (keeps_limits plan.edit) }
+        ensures entry { IfOk result (λ p. p.entry ≡ record { editor = plan.editor; edit = plan.edit }) }
+        ensures spelled { OnOk result (IsTrue (is_spelled (record { editor = plan.editor; edit = plan.edit }))) }
+        ensures writes { IfOk result (λ p. p.writes ≡ plan.writes) }
+        ensures ids { IfOk result (λ p. p.ids ≡ plan.ids) }
+        ensures frame { IfOk result (λ p. p.frame.items ≡ frame_bytes (record { editor = plan.editor; edit = plan.edit })) }
+    {
+        let editor = plan.editor();
+        let (edit, writes, ids) = plan.into_parts();
+        let entry = Entry { editor, edit };
+        let frame = framed(alloc, &entry)?;
+        Ok(Prepared {
+            entry,
+            writes,
+            ids,
+            frame,
+        })
+    }
+
+    /// The frame: the length of the entry's spelling, the spelling, and a closed gate.
+    pub(crate) fn frame(&self) -> &[u8]
+        ensures { result.now ≡ self.now.frame.items }
+    {
+        &self.frame
+    }
+
+    /// How many bytes the journal grows by.
+    pub(crate) fn frame_len(&self) -> u64
+        ensures { result ≡ length self.now.frame.items }
+    {
+        self.frame().len() as u64
+    }
+}
