@@ -3,7 +3,7 @@
 set -euo pipefail
 top=$(cd "$(dirname "$0")/.." && pwd)
 count=${1:-20000}
-work=$(mktemp -d)
+work=$(mktemp -d -p "${JOURNALS:-/dev/shm}")
 trap 'rm -rf "$work"' EXIT
 awk -v n="$count" 'BEGIN { for (i = 0; i < n; i++) printf "addisonode - %d %d\n", i % 200, int(i / 200) }' > "$work/nodes"
 : > "$work/empty"
@@ -12,7 +12,7 @@ measure() {
     python3 "$top/bench/measure.py" "$top/crates/topo/out/topo" "$1"
 }
 
-"$top/topo" apply < "$work/empty" > /dev/null
+"$top/topo" apply "$work/journal" < "$work/empty" > /dev/null
 awk 'BEGIN { for (i = 0; i < 5000; i++) printf "addisonode - %d 0\n", i }' > "$work/few"
 read -r few_time few_memory _ < <(measure "$work/few")
 read -r time memory _ < <(measure "$work/nodes")

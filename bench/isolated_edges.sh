@@ -3,7 +3,7 @@
 set -euo pipefail
 top=$(cd "$(dirname "$0")/.." && pwd)
 count=${1:-5000}
-work=$(mktemp -d)
+work=$(mktemp -d -p "${JOURNALS:-/dev/shm}")
 trap 'rm -rf "$work"' EXIT
 awk -v n="$count" 'BEGIN {
     for (i = 0; i < n; i++) {
@@ -15,6 +15,6 @@ awk -v n="$count" 'BEGIN {
     }
 }' > "$work/edges"
 : > "$work/empty"
-"$top/topo" apply < "$work/empty" > /dev/null
+"$top/topo" apply "$work/journal" < "$work/empty" > /dev/null
 read -r time memory done < <(python3 "$top/bench/measure.py" "$top/crates/topo/out/topo" "$work/edges")
 echo "$count edges of 8 vertices: $done edits done, $time s, $memory KiB"

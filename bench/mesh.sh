@@ -8,7 +8,7 @@
 set -euo pipefail
 top=$(cd "$(dirname "$0")/.." && pwd)
 export PYTHONDONTWRITEBYTECODE=1
-work=$(mktemp -d)
+work=$(mktemp -d -p "${JOURNALS:-/dev/shm}")
 trap 'rm -rf "$work"' EXIT
 
 cat > "$work/mesh.py" <<'PYTHON'
@@ -78,7 +78,7 @@ if [ "${1:-}" = --script ]; then
 fi
 [ $# -gt 0 ] || set -- 8 16 32
 : > "$work/empty"
-"$top/topo" apply < "$work/empty" > /dev/null
+"$top/topo" apply "$work/journal" < "$work/empty" > /dev/null
 for n in "$@"; do
     before=0 made=0
     for step in 1 2 3 4 5 6 7 8; do

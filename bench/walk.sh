@@ -7,7 +7,7 @@ set -euo pipefail
 top=$(cd "$(dirname "$0")/.." && pwd)
 here=$(cd "$(dirname "$0")" && pwd)
 export PYTHONDONTWRITEBYTECODE=1
-work=$(mktemp -d)
+work=$(mktemp -d -p "${JOURNALS:-/dev/shm}")
 trap 'rm -rf "$work"' EXIT
 
 cat > "$work/walk.py" <<'PYTHON'
@@ -261,9 +261,10 @@ PYTHON
 python3 "$work/walk.py" "$here" "$@" > "$work/script"
 case " $* " in *" --script "*) cat "$work/script"; exit 0 ;; esac
 : > "$work/empty"
-"$top/topo" apply < "$work/empty" > /dev/null
+"$top/topo" apply "$work/journal" < "$work/empty" > /dev/null
 status=0
-"$top/crates/topo/out/topo" apply < "$work/script" > "$work/program" || status=$?
+rm -f "$work/journal"
+"$top/crates/topo/out/topo" apply "$work/journal" < "$work/script" > "$work/program" || status=$?
 python3 "$here/replay.py" < "$work/script" > "$work/replay"
 echo "$(grep -c '^done' "$work/replay" || true) edits done, $(grep -c '^refused' "$work/replay" || true) refused"
 if cmp -s "$work/program" "$work/replay"; then

@@ -7,6 +7,7 @@
 #![tactic(auto)]
 
 mod features;
+mod history;
 #[cfg(test)]
 mod reader;
 mod rows;
@@ -14,4 +15,5 @@ mod rows;
 mod tests;
 
 pub use features::features_text;
+pub use history::history_text;
 pub use rows::tables_text;

@@ -1,39 +1,76 @@
 -- How the text of a run comes together.
-use Rattle.std.proofs.Common.{◌≡◌, ℕ, ◌+◌, ◌<◌, Bool, cond, List, [], ◌∷◌, ◌++◌, length, take, IsTrue, refl, sym, subst, ap, ◌∙◌, inl, inr, append_assoc, append-nil}
+use Rattle.std.proofs.Common.{◌≡◌, ◌⊎◌, inl, inr, ℕ, zero, suc, ◌+◌, ◌-◌, ◌^◌, ◌<◌, ◌≤◌, min, Bool, true, false, ◌||◌, List, [], ◌∷◌, ◌++◌, length, take, Option, Some, None, refl, sym, subst, ap, ◌∙◌, append_assoc, append-nil, arith}
 use Rattle.std.specs.Prelude.{codes}
 use Rattle.std.specs.Io.KnownBytes.{Appends}
-use Rattle.std.specs.List.{list_all}
 use Rattle.std.proofs.lemmas.List.Concat.{flat_map-append}
+use Rattle.std.proofs.lemmas.List.Sums.{sum_by_push}
 use Rattle.std.proofs.Math.Seq.{take-length}
 use Rattle.topo_base.specs.ScriptLines.{ScriptLine}
+use Rattle.topo_base.specs.declared.edit.Edit.{Edit}
+use Rattle.topo_base.specs.declared.edit.Entry.{Entry}
 use Rattle.topo_base.specs.declared.answer.Answer.{Answer}
 use Rattle.topo_base.specs.declared.answer.Answer.TheVariants.{Memory}
 use Rattle.topo_io.specs.Causes.{Rose}
 use Rattle.topo_io.specs.Sinks.{IsFront, AppendsFront}
 use Rattle.topo_io.proofs.Written.{appended_more, front_more, front_whole}
-use Rattle.topo_model.specs.NamedRange.{is_script_line}
+use Rattle.topo_model.specs.Answers.{Bounds}
+use Rattle.topo_model.specs.Replay.{replay}
 use Rattle.topo_model.specs.Texts.{reply_text, replies_text, tables_text}
-use Rattle.topo_model.specs.ScriptRun.{Place, beginning, answer_at, script_answers, AreScriptAnswers, due}
-use Rattle.topo_model.proofs.ScriptRunning.{front_answers, short_answers, front_replayed, short_replayed, scripts_right}
-use Rattle.topo.proofs.Referenced.{referenced_run, subdivision_run}
-use Rattle.topo.specs.Run.{State, start, next_all, Shows, reply, replies, StopsShort, CutsShort}
-use Rattle.topo.specs.Endings.{SinkView, Prints, printed, print_cut, IsCutBy, all_but_last, RunsScript, ran_whole, ran_cut}
-use Rattle.topo.proofs.Runs.{next_all_place, next_all_done, answers-append, replies-append}
+use Rattle.topo.specs.Views.{SinkView}
+use Rattle.topo.specs.Output.{Prints, printed, print_cut, IsCutBy, due, all_but_last}
+use Rattle.topo.specs.Run.{Standing, edit_at, grown, standing_after, standing_behind, AreAnswered, AreTried, is_disk_fault, has_fault, faults_of, faults_in, RoseBy}
+use Rattle.topo.specs.Running.{Running, standing_of, AreServed, AllReplied, SomeReplied, RepliesCut, EndsRun, ends_whole, ends_cut, whole_status}
+use Rattle.topo.proofs.Serving.{faults_more}
 
--- ---- what is due
-due_front : (ls : List ScriptLine) (n : ℕ) → due ls (script_answers (take n ls)) ≡ replies start (take n ls) ++ tables_text (next_all start (take n ls)).place.drawing
-due_front ls n =
-    ap (λ S. replies start (take n ls) ++ tables_text S) (front_replayed beginning ls n ∙ ap (λ (p : Place). p.drawing) (sym (next_all_place start (take n ls))))
+-- ---- lines from the first on
+pub tried_front : (m : Bounds) (s : Standing) (ls : List ScriptLine) (n : ℕ) (given : List Answer) → AreAnswered m s (take n ls) given → AreTried m s ls given
+tried_front m s ls n [] h = tt
+tried_front m s [] zero (a ∷ given) h = h
+tried_front m s [] (suc n) (a ∷ given) h = h
+tried_front m s (l ∷ ls) zero (a ∷ given) h = absurd h
+tried_front m s (l ∷ ls) (suc n) (a ∷ given) h = inr (h.0, tried_front m (standing_after s l a) ls n given h.1)
 
-due_all : (ls : List ScriptLine) → due ls (script_answers ls) ≡ replies start ls ++ tables_text (next_all start ls).place.drawing
-due_all ls = subst (λ ks. due ls (script_answers ks) ≡ replies start ks ++ tables_text (next_all start ks).place.drawing) (take-length ls) (due_front ls (length ls))
+behind_front : (m : Bounds) (s : Standing) (ls : List ScriptLine) (n : ℕ) (given : List Answer) → AreAnswered m s (take n ls) given → standing_behind s (take n ls) given ≡ standing_behind s ls given
+behind_front m s [] zero given h = refl
+behind_front m s [] (suc n) given h = refl
+behind_front m s (l ∷ ls) zero [] h = refl
+behind_front m s (l ∷ ls) zero (a ∷ given) h = absurd h
+behind_front m s (l ∷ ls) (suc n) [] h = refl
+behind_front m s (l ∷ ls) (suc n) (a ∷ given) h = behind_front m (standing_after s l a) ls n given h.1
 
-due_short : (ls : List ScriptLine) (n : ℕ) → n < length ls
-    → due ls (script_answers (take n ls) ++ Memory ∷ []) ≡ (replies start (take n ls) ++ codes "memory\n") ++ tables_text (next_all start (take n ls)).place.drawing
-due_short ls n inside =
-    let text = flat_map-append reply_text (script_answers (take n ls)) (Memory ∷ []) in
-    let rows = short_replayed beginning ls n inside ∙ ap (λ (p : Place). p.drawing) (sym (next_all_place start (take n ls))) in
-    λ i. text i ++ tables_text (rows i)
+-- and one more that wanted memory
+tried_memory : (m : Bounds) (s : Standing) (ls : List ScriptLine) (n : ℕ) (given : List Answer) → n < length ls → AreAnswered m s (take n ls) given → AreTried m s ls (given ++ Memory ∷ [])
+tried_memory m s [] n given inside h = absurd (omega arith)
+tried_memory m s (l ∷ ls) zero [] inside h = inl (refl, refl)
+tried_memory m s (l ∷ ls) zero (a ∷ given) inside h = absurd h
+tried_memory m s (l ∷ ls) (suc n) [] inside h = absurd h
+tried_memory m s (l ∷ ls) (suc n) (a ∷ given) inside h = inr (h.0, tried_memory m (standing_after s l a) ls n given (omega arith) h.1)
+
+memory_grown : (history : List Entry) (o : Option Edit) → history ≡ grown history o Memory
+memory_grown history None = refl
+memory_grown history (Some e) = sym (append-nil history)
+
+behind_none : (s : Standing) (ls : List ScriptLine) → standing_behind s ls [] ≡ s
+behind_none s [] = refl
+behind_none s (l ∷ ls) = refl
+
+behind_memory : (m : Bounds) (s : Standing) (ls : List ScriptLine) (n : ℕ) (given : List Answer) → n < length ls → AreAnswered m s (take n ls) given
+    → (standing_behind s (take n ls) given).history ≡ (standing_behind s ls (given ++ Memory ∷ [])).history
+behind_memory m s [] n given inside h = absurd (omega arith)
+behind_memory m s (l ∷ ls) zero [] inside h = memory_grown s.history (edit_at s l) ∙ ap (λ (x : Standing). x.history) (sym (behind_none (standing_after s l Memory) ls))
+behind_memory m s (l ∷ ls) zero (a ∷ given) inside h = absurd h
+behind_memory m s (l ∷ ls) (suc n) [] inside h = absurd h
+behind_memory m s (l ∷ ls) (suc n) (a ∷ given) inside h = behind_memory m (standing_after s l a) ls n given (omega arith) h.1
+
+or_one : (b : Bool) → (b || false) ≡ b
+or_one true = refl
+or_one false = refl
+
+memory_fault : (given : List Answer) → has_fault given ≡ has_fault (given ++ Memory ∷ [])
+memory_fault given = sym (faults_more given Memory ∙ or_one (has_fault given))
+
+memory_faults : (given : List Answer) → faults_in given ≡ faults_in (given ++ Memory ∷ [])
+memory_faults given = let more = sum_by_push (λ (a : Answer). faults_of (is_disk_fault a)) given Memory in omega (arith, more)
 
 -- ---- all answers but the last
 all_but_last-push : (given : List Answer) (answer : Answer) → all_but_last (given ++ answer ∷ []) ≡ given
@@ -56,84 +93,82 @@ cut_since : (old mid new : SinkView) (result : ℕ) → mid.faults ≡ old.fault
 cut_since old mid new result same (inl failed) = inl (failed.0, subst (λ n. Rose n new.faults) same failed.1)
 cut_since old mid new result same (inr is) = inr is
 
--- ---- a run to the end
-pub runs_whole : (ls : List ScriptLine) (old mid new : SinkView) (status result : ℕ) → IsTrue (list_all is_script_line ls) → Appends old.written mid.written (replies start ls) → mid.faults ≡ old.faults
-    → status ≡ cond (next_all start ls).all_done 0 1 → Prints mid new (tables_text (next_all start ls).place.drawing) status result → RunsScript ls old new result
-runs_whole ls old mid new status result good text same stat (printed is rows calm) = ran_whole (record {
-  status = is ∙ stat ∙ ap (λ b. cond b 0 1) (next_all_done start ls);
-  text = subst (Appends old.written new.written) (sym (due_all ls)) (appended_more old.written mid.written new.written _ _ text rows);
-  right = scripts_right ls (script_answers ls) good (subst (λ ks. AreScriptAnswers ls (script_answers ks)) (take-length ls) (front_answers beginning ls (length ls)));
-  referenced = referenced_run ls (script_answers ls) (scripts_right ls (script_answers ls) good (subst (λ ks. AreScriptAnswers ls (script_answers ks)) (take-length ls) (front_answers beginning ls (length ls))));
-  subdivision = subdivision_run ls (script_answers ls) (scripts_right ls (script_answers ls) good (subst (λ ks. AreScriptAnswers ls (script_answers ks)) (take-length ls) (front_answers beginning ls (length ls))));
-  calm = calm ∙ same;
-})
-runs_whole ls old mid new status result good text same stat (print_cut by rows) =
-    let answered : AreScriptAnswers ls (script_answers ls) = subst (λ ks. AreScriptAnswers ls (script_answers ks)) (take-length ls) (front_answers beginning ls (length ls)) in
-    ran_cut (cut_since old mid new result same by) (record {
-      given = script_answers ls;
-      answers = answered;
-      right = scripts_right ls (script_answers ls) good answered;
-      referenced = referenced_run ls (script_answers ls) (scripts_right ls (script_answers ls) good answered);
-      subdivision = subdivision_run ls (script_answers ls) (scripts_right ls (script_answers ls) good answered);
-      text = replies start ls ++ rows.front;
-      due_front = (rows.begins.0, append_assoc (replies start ls) rows.front rows.begins.0 ∙ ap (λ l. replies start ls ++ l) rows.begins.1 ∙ sym (due_all ls));
-      whole_lines = longer_front _ _ rows.front (but_last_front (script_answers ls));
-      grown = appended_more old.written mid.written new.written _ _ text rows.grown;
-    })
-
--- ---- a run up to an edit that wanted memory
 part_of : (mid new : SinkView) (text : List ℕ) (result : ℕ) → Prints mid new text 8 result → IsCutBy mid new result × AppendsFront mid.written new.written text
 part_of mid new text result (printed is p calm) = (inr is, front_whole mid.written new.written text [] text p (append-nil text))
 part_of mid new text result (print_cut by p) = (by, p)
 
-pub runs_short : (ls : List ScriptLine) (old mid new : SinkView) (n result : ℕ) → IsTrue (list_all is_script_line ls) → n < length ls → Appends old.written mid.written (replies start (take n ls)) → mid.faults ≡ old.faults
-    → Prints mid new (codes "memory\n" ++ tables_text (next_all start (take n ls)).place.drawing) 8 result → RunsScript ls old new result
-runs_short ls old mid new n result good inside text same ended =
+-- ---- a run to the end
+pub runs_whole : (r t : Running) (ls : List ScriptLine) (old mid new : SinkView) (result : ℕ) → AllReplied r ls t old mid
+    → Prints mid new (tables_text (replay t.history)) (whole_status t.failed t.all_done) result → EndsRun r ls t old new result
+runs_whole r t ls old mid new result all (printed is rows calm) = ends_whole (record {
+  given = all.given;
+  served = all.served;
+  status = is;
+  text = appended_more old.written mid.written new.written _ _ all.text rows;
+  calm = calm ∙ all.calm;
+})
+runs_whole r t ls old mid new result all (print_cut by rows) =
+    let before = replies_text all.given in
+    ends_cut (cut_since old mid new result all.calm by) (record {
+      given = all.given;
+      tried = tried_front r.bounds (standing_of r) ls (length ls) all.given (subst (λ (ks : List ScriptLine). AreAnswered r.bounds (standing_of r) ks all.given) (sym (take-length ls)) all.served.answered);
+      history = all.served.history;
+      bounds = all.served.bounds;
+      in_doubt = all.served.in_doubt;
+      faults = all.served.faults;
+      text = before ++ rows.front;
+      due_front = (rows.begins.0, append_assoc before rows.front rows.begins.0 ∙ ap (λ l. before ++ l) rows.begins.1);
+      whole_lines = longer_front _ _ rows.front (but_last_front all.given);
+      grown = appended_more old.written mid.written new.written _ _ all.text rows.grown;
+    })
+
+-- ---- a run up to an edit that wanted memory
+pub runs_short : (r t : Running) (ls : List ScriptLine) (old mid new : SinkView) (result : ℕ) → SomeReplied r ls t old mid
+    → Prints mid new (codes "memory\n" ++ tables_text (replay t.history)) 8 result → EndsRun r ls t old new result
+runs_short r t ls old mid new result some ended =
     let part = part_of mid new _ result ended in
-    let before = replies start (take n ls) in
-    let rows = tables_text (next_all start (take n ls)).place.drawing in
+    let all = some.replied in
+    let given = all.given in
+    let before = replies_text given in
+    let rows = tables_text (replay t.history) in
     let front = part.1.front in
     let rest = part.1.begins.0 in
-    let given = script_answers (take n ls) ++ Memory ∷ [] in
-    let answered = short_answers beginning ls n inside in
-    ran_cut (cut_since old mid new result same part.0) (record {
-      given = given;
-      answers = answered;
-      right = scripts_right ls given good answered;
-      referenced = referenced_run ls given (scripts_right ls given good answered);
-      subdivision = subdivision_run ls given (scripts_right ls given good answered);
+    let text = flat_map-append reply_text given (Memory ∷ []) in
+    ends_cut (cut_since old mid new result all.calm part.0) (record {
+      given = given ++ Memory ∷ [];
+      tried = tried_memory r.bounds (standing_of r) ls some.tried given some.inside all.served.answered;
+      history = all.served.history ∙ behind_memory r.bounds (standing_of r) ls some.tried given some.inside all.served.answered;
+      bounds = all.served.bounds;
+      in_doubt = λ e. subst (λ (b : Bool). (b ≡ true) ⊎ (r.in_doubt ≡ true)) (memory_fault given) (all.served.in_doubt e);
+      faults = subst (λ (n : ℕ). RoseBy n r.faults t.faults) (memory_faults given) all.served.faults;
       text = before ++ front;
-      due_front = (rest, append_assoc before front rest ∙ ap (λ l. before ++ l) part.1.begins.1 ∙ sym (append_assoc before (codes "memory\n") rows) ∙ sym (due_short ls n inside));
-      whole_lines = (front, ap (λ (given : List Answer). replies_text given ++ front) (all_but_last-push (script_answers (take n ls)) Memory));
-      grown = appended_more old.written mid.written new.written _ _ text part.1.grown;
+      due_front = (rest, append_assoc before front rest ∙ ap (λ l. before ++ l) part.1.begins.1 ∙ sym (append_assoc before (codes "memory\n") rows) ∙ ap (λ l. l ++ rows) (sym text));
+      whole_lines = (front, ap (λ (given : List Answer). replies_text given ++ front) (all_but_last-push given Memory));
+      grown = appended_more old.written mid.written new.written _ _ all.text part.1.grown;
     })
 
 -- ---- a run in which a reply was cut
-pub runs_cut : (ls : List ScriptLine) (old new : SinkView) (result : ℕ) → IsTrue (list_all is_script_line ls) → CutsShort start ls old.written new.written → IsCutBy old new result → RunsScript ls old new result
-runs_cut ls old new result good cut by =
-    let n = cut.tried in
-    let before = replies start (take n ls) in
-    let t = next_all start (take n ls) in
-    let given = script_answers (take (n + 1) ls) in
-    let answered = front_answers beginning ls (n + 1) in
-    let rows = tables_text (next_all start (take (n + 1) ls)).place.drawing in
+pub runs_cut : (r t : Running) (ls : List ScriptLine) (old new : SinkView) (why : Type 0) (result : ℕ) → RepliesCut r ls t old new why → IsCutBy old new result → EndsRun r ls t old new result
+runs_cut r t ls old new why result cut by =
+    let given = cut.given ++ cut.answer ∷ [] in
+    let before = replies_text cut.given in
+    let rows = tables_text (replay t.history) in
     let rest = cut.begins.0 in
-    let more : replies start (take (n + 1) ls) ≡ before ++ reply t cut.cut =
-    ap (replies start) cut.one_more ∙ replies-append start (take n ls) (cut.cut ∷ []) ∙ ap (λ l. before ++ l) (append-nil (reply t cut.cut)) in
-    let whole : (before ++ cut.front) ++ (rest ++ rows) ≡ replies start (take (n + 1) ls) ++ rows =
+    let more : replies_text given ≡ before ++ reply_text cut.answer = flat_map-append reply_text cut.given (cut.answer ∷ []) ∙ ap (λ l. before ++ l) (append-nil (reply_text cut.answer)) in
+    let whole : (before ++ cut.front) ++ (rest ++ rows) ≡ replies_text given ++ rows =
     append_assoc before cut.front (rest ++ rows)
     ∙ ap (λ l. before ++ l) (sym (append_assoc cut.front rest rows) ∙ ap (λ l. l ++ rows) cut.begins.1)
-    ∙ sym (append_assoc before (reply t cut.cut) rows) ∙ ap (λ l. l ++ rows) (sym more) in
-    let last : given ≡ script_answers (take n ls) ++ answer_at t.place cut.cut ∷ [] = ap script_answers cut.one_more ∙ answers-append start (take n ls) (cut.cut ∷ []) in
-    ran_cut by (record {
+    ∙ sym (append_assoc before (reply_text cut.answer) rows) ∙ ap (λ l. l ++ rows) (sym more) in
+    ends_cut by (record {
       given = given;
-      answers = answered;
-      right = scripts_right ls given good answered;
-      referenced = referenced_run ls given (scripts_right ls given good answered);
-      subdivision = subdivision_run ls given (scripts_right ls given good answered);
+      tried = tried_front r.bounds (standing_of r) ls (cut.tried) given cut.served.answered;
+      history = cut.served.history ∙ ap (λ (x : Standing). x.history) (behind_front r.bounds (standing_of r) ls cut.tried given cut.served.answered);
+      bounds = cut.served.bounds;
+      in_doubt = cut.served.in_doubt;
+      faults = cut.served.faults;
       text = before ++ cut.front;
-      due_front = (rest ++ rows, whole ∙ sym (due_front ls (n + 1)));
-      whole_lines = (cut.front, ap (λ (given : List Answer). replies_text given ++ cut.front) (ap all_but_last last ∙ all_but_last-push (script_answers (take n ls)) _));
+      due_front = (rest ++ rows, whole);
+      whole_lines = (cut.front, ap (λ (given : List Answer). replies_text given ++ cut.front) (all_but_last-push cut.given cut.answer));
       grown = cut.text;
     })
 
@@ -142,24 +177,3 @@ pub prints_then : (old mid new : SinkView) (x y : List ℕ) (status result : ℕ
 prints_then old mid new x y status result p same (printed is q calm) = printed is (appended_more old.written mid.written new.written x y p q) (calm ∙ same)
 prints_then old mid new x y status result p same (print_cut by q) =
     print_cut (cut_since old mid new result same by) (front_more old.written mid.written new.written x y [] (x ++ y) p q (ap (λ l. x ++ l) (append-nil y)))
-
--- ---- the same from a desk with nothing drawn
-pub ends_whole : (ls : List ScriptLine) (d t : State) (old mid new : SinkView) (b : Bool) (status result : ℕ) → IsTrue (list_all is_script_line ls) → d ≡ start → Shows t (next_all d ls)
-    → Appends old.written mid.written (replies d ls) → mid.faults ≡ old.faults → b ≡ t.all_done → status ≡ cond b 0 1 → Prints mid new (tables_text t.place.drawing) status result → RunsScript ls old new result
-ends_whole ls d t old mid new b status result good from at text same done stat ended =
-    let drawn = at.drawing ∙ ap (λ x. (next_all x ls).place.drawing) from in
-    let all = at.all_done ∙ ap (λ x. (next_all x ls).all_done) from in
-    runs_whole ls old mid new status result good (subst (λ x. Appends old.written mid.written (replies x ls)) from text) same
-    (stat ∙ ap (λ x. cond x 0 1) (done ∙ all))
-    (subst (λ S. Prints mid new (tables_text S) status result) drawn ended)
-
-pub ends_short : (ls : List ScriptLine) (d t : State) (old mid new : SinkView) (result : ℕ) → IsTrue (list_all is_script_line ls) → d ≡ start → StopsShort d t ls old.written mid.written
-    → mid.faults ≡ old.faults → Prints mid new (codes "memory\n" ++ tables_text t.place.drawing) 8 result → RunsScript ls old new result
-ends_short ls d t old mid new result good from stop same ended =
-    let tried = take stop.tried ls in
-    let drawn = stop.drawing ∙ ap (λ x. (next_all x tried).place.drawing) from in
-    runs_short ls old mid new stop.tried result good stop.inside (subst (λ x. Appends old.written mid.written (replies x tried)) from stop.text) same
-    (subst (λ S. Prints mid new (codes "memory\n" ++ tables_text S) 8 result) drawn ended)
-
-pub ends_cut : (ls : List ScriptLine) (d : State) (old new : SinkView) (result : ℕ) → IsTrue (list_all is_script_line ls) → d ≡ start → CutsShort d ls old.written new.written → IsCutBy old new result → RunsScript ls old new result
-ends_cut ls d old new result good from cut by = runs_cut ls old new result good (subst (λ x. CutsShort x ls old.written new.written) from cut) by

@@ -1,6 +1,9 @@
-pub mod Committed
-pub mod Growing
-pub mod Runs
-pub mod Referenced
-pub mod Ends
-pub mod Causes
+mod Ends
+mod Loop
+mod Readings
+mod RightRuns
+mod Runs
+mod Serving
+mod SoundHistories
+mod Statuses
+mod Tried

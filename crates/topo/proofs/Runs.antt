@@ -1,208 +1,130 @@
--- A run, one line after another.
-use Rattle.std.proofs.Common.{◌≡◌, ℕ, zero, suc, ◌+◌, ◌*◌, ◌<◌, ◌≤◌, Bool, true, false, ◌&&◌, List, [], ◌∷◌, ◌++◌, length, get_or, take, Option, Some, None, Result, Ok, Err, is_ok, IsTrue, refl, sym, subst, ap, ◌∙◌, arith, append-nil}
-use Rattle.std.specs.Prelude.{flat_map, OnOk}
-use Rattle.std.specs.Io.KnownBytes.{Appends}
+-- A run of a script on a desk, from its beginning to its end.
+use Rattle.std.proofs.Common.{◌≡◌, ◌⊎◌, inl, inr, ℕ, Bool, true, false, cond, ◌&&◌, ◌||◌, List, [], IsTrue, refl, sym, subst, ap, ◌∙◌, length, take}
 use Rattle.std.specs.List.{list_all}
-use Rattle.std.proofs.lemmas.List.{take_more}
-use Rattle.std.proofs.lemmas.List.Concat.{flat_map-append}
-use Rattle.std.proofs.lemmas.Bool.{and_parts}
+use Rattle.std.proofs.Math.Seq.{take-length}
 use Rattle.topo_base.specs.ScriptLines.{ScriptLine}
-use Rattle.topo_base.specs.declared.edit.Edit.{Edit}
-use Rattle.topo_base.specs.declared.element.Element.{Element}
+use Rattle.topo_base.specs.declared.edit.Entry.{Entry}
 use Rattle.topo_base.specs.declared.answer.Answer.{Answer}
-use Rattle.topo_base.specs.declared.answer.Answer.TheVariants.{Done, Refused, Unbound, Stale, DiskFault, Memory}
 use Rattle.script_reader.specs.Bindings.{names_of}
-use Rattle.topo_io.specs.Sinks.{AppendsFront}
-use Rattle.topo_io.proofs.Written.{appended_more, appended_none}
-use Rattle.topo_model.specs.Drawing.{Drawing}
-use Rattle.topo_model.specs.Legal.{keeps_limits}
-use Rattle.topo_model.specs.Outcome.{Outcome}
-use Rattle.topo_model.specs.Step.{step}
-use Rattle.topo_model.proofs.Resolving.{edit_limits, good_edit}
-use Rattle.topo_model.specs.Replay.{answer_of, front_after}
-use Rattle.topo_model.specs.Bindings.{Names, resolve, bound, ids_of}
+use Rattle.topo_journal.specs.Kept.{Each}
+use Rattle.topo_model.specs.Answers.{Bounds}
+use Rattle.topo_model.specs.Bindings.{Names}
+use Rattle.topo_model.specs.Legal.{is_legal}
 use Rattle.topo_model.specs.NamedRange.{is_script_line}
-use Rattle.topo_model.specs.Texts.{reply_text}
 use Rattle.topo_model.specs.Run.{is_done}
-use Rattle.topo_model.specs.ScriptRun.{edit_at, answer_to, answer_at, drawing_with, front_with, place_after, place_after_all, answers_at}
-use Rattle.topo.specs.Run.{State, Kept, state_of, answered, with_names, next, next_all, Shows, reply, replies, CutsShort}
-use Rattle.topo.proofs.Growing.{IsLittle, edit_little}
+use Rattle.topo_desk.specs.Left.{StandsOrDoubts}
+use Rattle.topo.specs.Output.{due}
+use Rattle.topo.specs.Run.{Standing, opening, standing_behind, AreAnswered, AreTried, has_fault, faults_in, RoseBy, IsRightRun, status_of}
+use Rattle.topo.specs.Running.{Running, standing_of, IsBegun, EndsRun, ends_whole, ends_cut, whole_status}
+use Rattle.topo_base.specs.declared.limits.Limits.{Limits}
+use Rattle.topo_desk.specs.Boarded.{bounds_of}
+use Rattle.topo_io.specs.Causes.{Rose}
+use Rattle.topo_model.specs.Journal.{IsBadAt}
+use Rattle.topo_recover.specs.declared.end.RecoverEnd.{RecoverEnd}
+use Rattle.topo_recover.specs.declared.end.RecoverEnd.TheVariants.{NoJournal, DiskFault, Memory}
+use Rattle.topo.specs.Endings.{standard, IsLeftBehind, RunsScript, ran_whole, ran_cut, EndsUnread, Unrecovered, no_journal, disk_fault, not_recovered}
+use Rattle.topo.specs.Views.{SinkView, DiskView}
+use Rattle.topo.proofs.Ends.{tried_front}
+use Rattle.topo.proofs.RightRuns.{right_run}
 
--- ---- what the state has after some lines
-pub next_all_place : (s : State) (ls : List ScriptLine) → (next_all s ls).place ≡ place_after_all s.place ls
-next_all_place s [] = refl
-next_all_place s (l ∷ ls) = next_all_place (next s l) ls
+begins_at : (read : List Entry) (m : Bounds) (doubt : Bool) (faults : ℕ) (r : Running) → IsBegun read m doubt faults r → standing_of r ≡ opening read
+begins_at read m doubt faults r h = λ i. record { history = h.history_is i; names = h.no_names_yet i }
 
-and_true : (b : Bool) → b ≡ (b && true)
-and_true true = refl
-and_true false = refl
+-- a doubt comes from a fault in the run alone
+doubt_at : (history : List Entry) (m : Bounds) (now told : Bool) (bytes : List ℕ) → (now ≡ true → told ≡ true) → StandsOrDoubts m history now bytes → StandsOrDoubts m history told bytes
+doubt_at history m now told bytes turn (inl stands) = inl stands
+doubt_at history m now told bytes turn (inr doubts) = inr (turn doubts.0, doubts.1)
 
-and_assoc : (a b c : Bool) → ((a && b) && c) ≡ (a && (b && c))
-and_assoc true b c = refl
-and_assoc false b c = refl
+pub record EndsOn (read : List Entry) (r t : Running) (before behind : DiskView) : Type 0 where
+  pub begun : IsBegun read standard false before.faults r
+  pub legal : IsTrue (is_legal standard.max_id standard.max_journal read)
+  pub faults : behind.faults ≡ t.faults
+  pub left : before.tells → Each (StandsOrDoubts t.bounds t.history t.in_doubt) behind.seen behind.may_leave
 
-pub next_all_done : (s : State) (ls : List ScriptLine) → (next_all s ls).all_done ≡ (s.all_done && list_all is_done (answers_at s.place ls))
-next_all_done s [] = and_true s.all_done
-next_all_done s (l ∷ ls) = next_all_done (next s l) ls ∙ and_assoc s.all_done (is_done (answer_at s.place l)) (list_all is_done (answers_at (place_after s.place l) ls))
+left_by : (read : List Entry) (r t : Running) (before behind : DiskView) (history : List Entry) (given : List Answer) → EndsOn read r t before behind → t.bounds ≡ r.bounds → t.history ≡ history
+    → (t.in_doubt ≡ true → (has_fault given ≡ true) ⊎ (r.in_doubt ≡ true)) → RoseBy (faults_in given) r.faults t.faults → IsLeftBehind history given before behind
+left_by read r t before behind history given h bounds same doubt rose =
+    let turn : t.in_doubt ≡ true → has_fault given ≡ true = λ e. elim (doubt e) [ inl now ↦ now | inr first ↦ absurd (let both = sym h.begun.doubt_is ∙ first in cc) ] in
+    let m : t.bounds ≡ standard = bounds ∙ h.begun.bounds_are in
+    let stands : (bytes : List ℕ) → StandsOrDoubts t.bounds t.history t.in_doubt bytes → StandsOrDoubts standard history (has_fault given) bytes = λ bytes at.
+    doubt_at history standard t.in_doubt (has_fault given) bytes turn (subst (λ (x : Bounds). StandsOrDoubts x history t.in_doubt bytes) m (subst (λ (x : List Entry). StandsOrDoubts t.bounds x t.in_doubt bytes) same at)) in
+    record {
+      faults = subst (λ (n : ℕ). RoseBy (faults_in given) n behind.faults) h.begun.faults_are (subst (λ (n : ℕ). RoseBy (faults_in given) r.faults n) (sym h.faults) rose);
+      left = λ tells. let all = h.left tells in record { now = stands behind.seen all.now; crashed = λ c may. stands c (all.crashed c may) };
+    }
 
-pub next_all-append : (s : State) (ls ks : List ScriptLine) → next_all s (ls ++ ks) ≡ next_all (next_all s ls) ks
-next_all-append s [] ks = refl
-next_all-append s (l ∷ ls) ks = next_all-append (next s l) ls ks
+right_from : (read : List Entry) (r t : Running) (ls : List ScriptLine) (given : List Answer) → IsTrue (is_legal standard.max_id standard.max_journal read) → IsTrue (list_all is_script_line ls) → standing_of r ≡ opening read
+    → t.history ≡ (standing_behind (standing_of r) ls given).history → AreTried standard (opening read) ls given → IsRightRun standard read t.history ls given
+right_from read r t ls given legal good at same tried =
+    subst (λ (h : List Entry). IsRightRun standard read h ls given) (sym (same ∙ ap (λ (s : Standing). (standing_behind s ls given).history) at)) (right_run standard read ls given legal good tried)
 
-pub answers-append : (s : State) (ls ks : List ScriptLine) → answers_at s.place (ls ++ ks) ≡ answers_at s.place ls ++ answers_at (next_all s ls).place ks
-answers-append s [] ks = refl
-answers-append s (l ∷ ls) ks = ap (λ given. answer_at s.place l ∷ given) (answers-append (next s l) ls ks)
+whole_is : (r t : Running) (given : List Answer) → r.failed ≡ false → r.all_done ≡ true → t.failed ≡ (r.failed || has_fault given) → t.all_done ≡ (r.all_done && list_all is_done given)
+    → whole_status t.failed t.all_done ≡ status_of given
+whole_is r t given no' all failed done =
+    let f : t.failed ≡ has_fault given = failed ∙ ap (λ (b : Bool). b || has_fault given) no' in
+    let d : t.all_done ≡ list_all is_done given = done ∙ ap (λ (b : Bool). b && list_all is_done given) all in
+    λ i. whole_status (f i) (d i)
 
-pub replies-append : (s : State) (ls ks : List ScriptLine) → replies s (ls ++ ks) ≡ replies s ls ++ replies (next_all s ls) ks
-replies-append s ls ks = ap (flat_map reply_text) (answers-append s ls ks) ∙ flat_map-append reply_text (answers_at s.place ls) (answers_at (next_all s ls).place ks)
+pub runs_on : (read : List Entry) (r t : Running) (ls : List ScriptLine) (old new : SinkView) (before behind : DiskView) (result : ℕ) → EndsOn read r t before behind → IsTrue (list_all is_script_line ls)
+    → EndsRun r ls t old new result → RunsScript read ls old new before behind result
+runs_on read r t ls old new before behind result h good (ends_whole w) =
+    let at = begins_at read standard false before.faults r h.begun in
+    let answered : AreAnswered standard (opening read) ls w.given = subst (λ (s : Standing). AreAnswered standard s ls w.given) at (subst (λ (m : Bounds). AreAnswered m (standing_of r) ls w.given) h.begun.bounds_are w.served.answered) in
+    let tried = tried_front standard (opening read) ls (length ls) w.given (subst (λ (ks : List ScriptLine). AreAnswered standard (opening read) ks w.given) (sym (take-length ls)) answered) in
+    ran_whole (record {
+      given = w.given;
+      history = t.history;
+      answered = answered;
+      right = right_from read r t ls w.given h.legal good at w.served.history tried;
+      status = w.status ∙ whole_is r t w.given h.begun.failed h.begun.all_done w.served.failed w.served.all_done;
+      text = w.text;
+      calm = w.calm;
+      disk = left_by read r t before behind t.history w.given h w.served.bounds refl w.served.in_doubt w.served.faults;
+    })
+runs_on read r t ls old new before behind result h good (ends_cut by w) =
+    let at = begins_at read standard false before.faults r h.begun in
+    let tried : AreTried standard (opening read) ls w.given = subst (λ (s : Standing). AreTried standard s ls w.given) at (subst (λ (m : Bounds). AreTried m (standing_of r) ls w.given) h.begun.bounds_are w.tried) in
+    ran_cut by (record {
+      given = w.given;
+      history = t.history;
+      tried = tried;
+      right = right_from read r t ls w.given h.legal good at w.history tried;
+      text = w.text;
+      due_front = w.due_front;
+      whole_lines = w.whole_lines;
+      grown = w.grown;
+      disk = left_by read r t before behind t.history w.given h w.bounds refl w.in_doubt w.faults;
+    })
 
--- ---- one line more
-pub take_one : (ls : List ScriptLine) (i : ℕ) (l : ScriptLine) → i < length ls → l ≡ get_or ls i l → take (i + 1) ls ≡ take i ls ++ l ∷ []
-take_one ls i l inside is = take_more ls i l inside ∙ ap (λ x. take i ls ++ x ∷ []) (sym is)
+-- the disk before recovery has failed as often as the one behind it
+pub rebased : (read : List Entry) (ls : List ScriptLine) (old new : SinkView) (tells : Type 0) (seen seen' : List ℕ) (leaves leaves' : List ℕ → Type 0) (faults faults' : ℕ) (behind : DiskView) (result : ℕ) → faults ≡ faults'
+    → RunsScript read ls old new (record { tells = tells; seen = seen; may_leave = leaves; faults = faults }) behind result
+    → RunsScript read ls old new (record { tells = tells; seen = seen'; may_leave = leaves'; faults = faults' }) behind result
+rebased read ls old new tells seen seen' leaves leaves' faults faults' behind result same (ran_whole w) = ran_whole (record {
+  given = w.given;
+  history = w.history;
+  answered = w.answered;
+  right = w.right;
+  status = w.status;
+  text = w.text;
+  calm = w.calm;
+  disk = record { faults = subst (λ (n : ℕ). RoseBy (faults_in w.given) n behind.faults) same w.disk.faults; left = w.disk.left };
+})
+rebased read ls old new tells seen seen' leaves leaves' faults faults' behind result same (ran_cut by w) = ran_cut by (record {
+  given = w.given;
+  history = w.history;
+  tried = w.tried;
+  right = w.right;
+  text = w.text;
+  due_front = w.due_front;
+  whole_lines = w.whole_lines;
+  grown = w.grown;
+  disk = record { faults = subst (λ (n : ℕ). RoseBy (faults_in w.given) n behind.faults) same w.disk.faults; left = w.disk.left };
+})
 
-pub replies_more : (s t : State) (ls : List ScriptLine) (i : ℕ) (l : ScriptLine) → i < length ls → l ≡ get_or ls i l → t ≡ next_all s (take i ls) → replies s (take (i + 1) ls) ≡ replies s (take i ls) ++ reply t l
-replies_more s t ls i l inside is at =
-    ap (replies s) (take_one ls i l inside is) ∙ replies-append s (take i ls) (l ∷ [])
-    ∙ ap (λ text. replies s (take i ls) ++ text) (append-nil (reply (next_all s (take i ls)) l) ∙ ap (λ x. reply x l) (sym at))
-
-pub next_all_more : (s t : State) (ls : List ScriptLine) (i : ℕ) (l : ScriptLine) → i < length ls → l ≡ get_or ls i l → t ≡ next_all s (take i ls) → next_all s (take (i + 1) ls) ≡ next t l
-next_all_more s t ls i l inside is at =
-    ap (next_all s) (take_one ls i l inside is) ∙ next_all-append s (take i ls) (l ∷ []) ∙ ap (λ x. next x l) (sym at)
-
-pub replies_next : (s t : State) (ls : List ScriptLine) (i : ℕ) (l : ScriptLine) (a b c : Option (List ℕ)) → i < length ls → l ≡ get_or ls i l → t ≡ next_all s (take i ls)
-    → Appends a b (replies s (take i ls)) → Appends b c (reply t l) → Appends a c (replies s (take (i + 1) ls))
-replies_next s t ls i l a b c inside is at before now = subst (Appends a c) (sym (replies_more s t ls i l inside is at)) (appended_more a b c _ _ before now)
-
--- what a test says of all it says of each
-pub list_all-at : (p : ScriptLine → Bool) (ls : List ScriptLine) (i : ℕ) (l : ScriptLine) → IsTrue (list_all p ls) → i < length ls → l ≡ get_or ls i l → IsTrue (p l)
-list_all-at p [] i l h inside is = absurd (omega arith)
-list_all-at p (x ∷ ls) zero l h inside is = let parts = and_parts (p x) (list_all p ls) h in subst (λ y. IsTrue (p y)) (sym is) parts.0
-list_all-at p (x ∷ ls) (suc i) l h inside is = let parts = and_parts (p x) (list_all p ls) h in list_all-at p ls i l parts.1 (omega arith) is
-
--- ---- the edit that a line gives keeps the limits
-pub line_limits : (b : Names) (l : ScriptLine) (e : Edit) → IsTrue (is_script_line l) → resolve b l.edit ≡ Some e → IsTrue (keeps_limits e)
-line_limits b l e good is = edit_limits b l.edit e (good_edit l good) is
-
--- ---- at most one node, two edges, two faces, one layer, one feature and one place more for each line
-pub record IsFew (s t : State) (n : ℕ) : Type 0 where
-  pub nodes : t.place.drawing.next_ids.node ≤ s.place.drawing.next_ids.node + n
-  pub edges : t.place.drawing.next_ids.edge ≤ s.place.drawing.next_ids.edge + 2 * n
-  pub faces : t.place.drawing.next_ids.face ≤ s.place.drawing.next_ids.face + 2 * n
-  pub layers : t.place.drawing.next_ids.layer ≤ s.place.drawing.next_ids.layer + n
-  pub features : t.place.drawing.next_ids.feature ≤ s.place.drawing.next_ids.feature + n
-  pub places : t.place.front ≤ s.place.front + n
-
-with_little : (S : Drawing) (front : ℕ) (o : Option Edit) → IsLittle S (drawing_with S o) front (front_with S front o)
-with_little S front None = record { nodes = omega arith; edges = omega arith; faces = omega arith; layers = omega arith; features = omega arith; places = omega arith }
-with_little S front (Some e) = edit_little S front e
-
-next_few : (s : State) (l : ScriptLine) → IsFew s (next s l) 1
-next_few s l =
-    let few = with_little s.place.drawing s.place.front (edit_at s.place l) in
-    record { nodes = few.nodes; edges = few.edges; faces = few.faces; layers = few.layers; features = few.features; places = few.places }
-
-pub next_all_few : (s : State) (ls : List ScriptLine) → IsFew s (next_all s ls) (length ls)
-next_all_few s [] = record { nodes = omega arith; edges = omega arith; faces = omega arith; layers = omega arith; features = omega arith; places = omega arith }
-next_all_few s (l ∷ ls) =
-    let one = next_few s l in
-    let more = next_all_few (next s l) ls in
-    let nodes = one.nodes in
-    let edges = one.edges in
-    let faces = one.faces in
-    let layers = one.layers in
-    let features = one.features in
-    let places = one.places in
-    let nodes' = more.nodes in
-    let edges' = more.edges in
-    let faces' = more.faces in
-    let layers' = more.layers in
-    let features' = more.features in
-    let places' = more.places in
-    record { nodes = omega arith; edges = omega arith; faces = omega arith; layers = omega arith; features = omega arith; places = omega arith }
-
--- ---- a reply that is cut
-pub cuts : (old t : State) (ls : List ScriptLine) (i : ℕ) (l : ScriptLine) (a b c : Option (List ℕ)) → i < length ls → l ≡ get_or ls i l → t ≡ next_all old (take i ls)
-    → Appends a b (replies old (take i ls)) → AppendsFront b c (reply t l) → CutsShort old ls a c
-cuts old t ls i l a b c inside is at before part = record {
-  tried = i;
-  cut = l;
-  inside = inside;
-  one_more = take_one ls i l inside is;
-  front = part.front;
-  begins = (part.begins.0, part.begins.1 ∙ ap (λ x. reply x l) at);
-  text = appended_more a b c (replies old (take i ls)) part.front before part.grown;
-}
-
-pub nothing_of : (b : Option (List ℕ)) (text : List ℕ) → AppendsFront b b text
-nothing_of b text = record { front = []; begins = (text, refl); grown = appended_none b }
-
--- ---- what a line makes of the state
-abbrev pub front_told : ℕ → Answer → ℕ
-front_told front (Done ids f) = f
-front_told front (Refused rule f) = front
-front_told front Unbound = front
-front_told front (Stale x read now f) = front
-front_told front DiskFault = front
-front_told front Memory = front
-
-told_of : (front : ℕ) (o : Outcome) → front_told front (answer_of front o) ≡ front_after front o
-told_of front (Ok done) = refl
-told_of front (Err rule) = refl
-
-told_with : (S : Drawing) (front : ℕ) (o : Option Edit) → front_told front (answer_to S front o) ≡ front_with S front o
-told_with S front None = refl
-told_with S front (Some e) = told_of front (step S e)
-
--- the parts of the state after an answer
-pub record IsAnswered (k old : Kept) (l : ScriptLine) (a : Answer) : Type 0 where
-  pub drawing : k.drawing ≡ drawing_with old.drawing (edit_at (state_of old).place l)
-  pub answer : a ≡ answer_at (state_of old).place l
-  pub front : k.front ≡ front_told old.front a
-  pub bindings : k.bindings ≡ old.bindings
-  pub all_done : k.all_done ≡ (old.all_done && is_done a)
-
-pub answered_of : (k old : Kept) (l : ScriptLine) (a : Answer) → IsAnswered k old l a → state_of k ≡ answered (state_of old) l
-answered_of k old l a h =
-    let front = h.front ∙ ap (front_told old.front) h.answer ∙ told_with old.drawing old.front (edit_at (state_of old).place l) in
-    let done = h.all_done ∙ ap (λ x. old.all_done && is_done x) h.answer in
-    λ i. record { place = record { drawing = h.drawing i; front = front i; names = names_of (h.bindings i) }; all_done = done i }
-
-and_false : (b : Bool) → false ≡ (b && false)
-and_false true = refl
-and_false false = refl
-
-pub done_told : (front f : ℕ) (all : Bool) (a : Answer) (ids : List Element) → a ≡ Done ids f → (f ≡ front_told front a) × (all ≡ (all && is_done a))
-done_told front f all a ids is = rw is (refl, and_true all)
-
-pub other_told : (front : ℕ) (all : Bool) (a : Answer) → ((ids : List Element) (f : ℕ) → a ≡ Done ids f → ⊥) → (front ≡ front_told front a) × (false ≡ (all && is_done a))
-other_told front all (Done ids f) other = absurd (other ids f refl)
-other_told front all (Refused rule f) other = (refl, and_false all)
-other_told front all Unbound other = (refl, and_false all)
-other_told front all (Stale x read now f) other = (refl, and_false all)
-other_told front all DiskFault other = (refl, and_false all)
-other_told front all Memory other = (refl, and_false all)
-
--- the names of a line are bound behind its answer
-pub next_of : (s m t : State) (l : ScriptLine) (a : Answer) → m ≡ answered s l → a ≡ answer_at s.place l → t ≡ with_names m (bound m.place.names l.names (ids_of a)) → t ≡ next s l
-next_of s m t l a at is bound_is = bound_is ∙ (λ i. with_names (at i) (bound (at i).place.names l.names (ids_of (is i))))
-
-pub on_ok : {A E : Type 0} (P : Type 0) (r : Result A E) → is_ok r ≡ true → OnOk r P → P
-on_ok P (Ok x) is h = h
-on_ok P (Err e) is h = absurd cc
-
-pub same_error : {A B E : Type 0} (e x : E) → ◌≡◌ {A = Result A E} (Err e) (Err x) → ◌≡◌ {A = Result B E} (Err e) (Err x)
-same_error e x is = let same : e ≡ x = cc in ap Err same
-
-pub ok_true : {E : Type 0} (b : Bool) → ◌≡◌ {A = Result Bool E} (Ok b) (Ok true) → b ≡ true
-ok_true b e = cc
-
--- ---- a run that can't go on
--- the names of the last line wanted memory: all lines were answered
-pub shows_at : (s t u : State) (ls : List ScriptLine) (i : ℕ) (l : ScriptLine) → i < length ls → l ≡ get_or ls i l → t ≡ next_all s (take i ls) → Shows u (next t l) → Shows u (next_all s (take (i + 1) ls))
-shows_at s t u ls i l inside is at shown = subst (Shows u) (sym (next_all_more s t ls i l inside is at)) shown
-
-pub take_whole : (ls : List ScriptLine) (i : ℕ) → length ls ≤ i → take i ls ≡ ls
-take_whole [] zero all = refl
-take_whole [] (suc i) all = refl
-take_whole (l ∷ ls) zero all = absurd (omega arith)
-take_whole (l ∷ ls) (suc i) all = ap (λ ks. l ∷ ks) (take_whole ls i (omega arith))
+-- a recovery that gave no desk
+pub unread : (old new : SinkView) (before behind : DiskView) (result : ℕ) (end : RecoverEnd) → ((offset : ℕ) → end ≡ NoJournal offset → before.tells → IsBadAt standard before.seen offset)
+    → (end ≡ DiskFault → Rose before.faults behind.faults) → ((end ≡ DiskFault → ⊥) → behind.faults ≡ before.faults) → EndsUnread end old new result → Unrecovered old new before behind result
+unread old new before behind result (NoJournal offset) bad rose calm h = no_journal offset (bad offset refl) (calm (λ e. cc)) h
+unread old new before behind result DiskFault bad rose calm h = disk_fault (rose refl) h
+unread old new before behind result Memory bad rose calm h = not_recovered (calm (λ e. cc)) h.0 h.1

@@ -1,94 +1,103 @@
--- How a run goes on, line after line.
-use Rattle.std.specs.Prelude.{◌≡◌, ℕ, ◌+◌, ◌*◌, ◌^◌, ◌<◌, Bool, true, ◌&&◌, List, [], ◌∷◌, ◌++◌, take, length, Option}
-use Rattle.std.specs.Io.KnownBytes.{Appends}
+-- How a run of a script goes on, line after line, behind a history.
+use Rattle.std.specs.Prelude.{◌≡◌, ◌⊎◌, ℕ, ◌+◌, ◌-◌, ◌^◌, ◌≤◌, min, Bool, true, false, IsTrue, List, [], ◌∷◌, ◌++◌, length, take, Option, Some, None, if◌then◌else◌}
+use Rattle.std.specs.List.{list_all, list_any, sum_by}
 use Rattle.topo_base.specs.ScriptLines.{ScriptLine}
-use Rattle.topo_io.specs.Sinks.{IsFront}
-use Rattle.topo_model.specs.Bindings.{Names}
-use Rattle.script_reader.specs.Bindings.{names_of}
-use Rattle.topo_model.specs.Drawing.{Drawing}
-use Rattle.topo_model.specs.Run.{is_done}
-use Rattle.topo_model.specs.ScriptRun.{Place, beginning, edit_at, drawing_with, front_with, answer_at, place_after, answers_at}
-use Rattle.topo_model.specs.Texts.{reply_text, replies_text}
+use Rattle.topo_base.specs.declared.edit.Edit.{Edit}
+use Rattle.topo_base.specs.declared.edit.Entry.{Entry}
+use Rattle.topo_base.specs.declared.answer.Answer.{Answer}
+use Rattle.topo_base.specs.declared.answer.Answer.TheVariants.{Unbound, DiskFault, Memory}
+use Rattle.topo_model.specs.Answers.{Bounds}
+use Rattle.topo_model.specs.Bindings.{Names, no_names, bound, ids_of, resolve}
+use Rattle.topo_model.specs.Legal.{is_legal}
+use Rattle.topo_model.specs.Replay.{replay}
+use Rattle.topo_model.specs.Run.{AreRight, is_done}
+use Rattle.topo_model.specs.ScriptRun.{script_edits, script_history, answers_given}
+use Rattle.topo_model.specs.Subdivision.{IsSubdivision}
+use Rattle.reference_laws.specs.Referenced.{IsReferenced}
+use Rattle.topo_desk.specs.Verdict.{IsTried, history_after}
 
--- where a run stands, and whether all lines so far were done
-pub record State : Type 0 where
-  pub place : Place
-  pub all_done : Bool
+-- where a run stands: the history, and what each name is bound to
+pub record Standing : Type 0 where
+  pub history : List Entry
+  pub names : Names
 
--- the same as a desk keeps it, with the names that are bound as a list
-pub record Kept : Type 0 where
-  pub drawing : Drawing
-  pub front : ℕ
-  pub bindings : List (List ℕ × ℕ)
-  pub all_done : Bool
+abbrev pub opening : List Entry → Standing
+opening history = record { history = history; names = no_names }
 
-abbrev pub state_of : Kept → State
-state_of k = record { place = record { drawing = k.drawing; front = k.front; names = names_of k.bindings }; all_done = k.all_done }
+-- the edit that a line gives there, and the entry that it may become
+abbrev pub edit_at : Standing → ScriptLine → Option Edit
+edit_at s l = resolve s.names l.edit
 
-abbrev pub start : State
-start = record { place = beginning; all_done = true }
+abbrev pub entry : Edit → Entry
+entry e = record { editor = 1; edit = e }
 
--- the state after a line was answered, whose names are still to be bound
-abbrev pub answered : State → ScriptLine → State
-answered s l = record {
-  place = record {
-    drawing = drawing_with s.place.drawing (edit_at s.place l);
-    front = front_with s.place.drawing s.place.front (edit_at s.place l);
-    names = s.place.names;
-  };
-  all_done = s.all_done && is_done (answer_at s.place l);
-}
+-- what a line may be answered: Unbound where a name isn't bound, or what its edit is answered on the history
+abbrev pub IsEditTried : Bounds → List Entry → Option Edit → Answer → Type 0
+IsEditTried m history None answer = answer ≡ Unbound
+IsEditTried m history (Some e) answer = IsTried m history (entry e) answer
 
--- the state with other names bound
-abbrev pub with_names : State → Names → State
-with_names s names = record { place = record { drawing = s.place.drawing; front = s.place.front; names = names }; all_done = s.all_done }
+abbrev pub IsLineTried : Bounds → Standing → ScriptLine → Answer → Type 0
+IsLineTried m s l answer = IsEditTried m s.history (edit_at s l) answer
 
--- the state after a line, and after some
-abbrev pub next : State → ScriptLine → State
-next s l = record { place = place_after s.place l; all_done = s.all_done && is_done (answer_at s.place l) }
+-- where the run stands behind the answer, after which the line's names are bound
+abbrev pub grown : List Entry → Option Edit → Answer → List Entry
+grown history None answer = history
+grown history (Some e) answer = history_after history (entry e) answer
 
-abbrev pub next_all : State → List ScriptLine → State
-next_all s [] = s
-next_all s (l ∷ ls) = next_all (next s l) ls
+abbrev pub standing_after : Standing → ScriptLine → Answer → Standing
+standing_after s l answer = record { history = grown s.history (edit_at s l) answer; names = bound s.names l.names (ids_of answer) }
 
--- what is still shown of a state when no line more is tried
-pub record Shows (t s : State) : Type 0 where
-  pub drawing : t.place.drawing ≡ s.place.drawing
-  pub all_done : t.all_done ≡ s.all_done
+-- each line has its answer, in order
+abbrev pub AreAnswered : Bounds → Standing → List ScriptLine → List Answer → Type 0
+AreAnswered m s [] [] = Unit {0}
+AreAnswered m s [] (answer ∷ given) = ⊥
+AreAnswered m s (l ∷ ls) [] = ⊥
+AreAnswered m s (l ∷ ls) (answer ∷ given) = IsLineTried m s l answer × AreAnswered m (standing_after s l answer) ls given
 
--- the text of a line's answer, and of some
-abbrev pub reply : State → ScriptLine → List ℕ
-reply s l = reply_text (answer_at s.place l)
+abbrev pub standing_behind : Standing → List ScriptLine → List Answer → Standing
+standing_behind s [] given = s
+standing_behind s (l ∷ ls) [] = s
+standing_behind s (l ∷ ls) (answer ∷ given) = standing_behind (standing_after s l answer) ls given
 
-abbrev pub replies : State → List ScriptLine → List ℕ
-replies s ls = replies_text (answers_at s.place ls)
+-- what a run may answer: lines from the first on, each so, or that it wanted memory and is the last one answered
+abbrev pub AreTried : Bounds → Standing → List ScriptLine → List Answer → Type 0
+AreTried m s ls [] = Unit {0}
+AreTried m s [] (answer ∷ given) = ⊥
+AreTried m s (l ∷ ls) (answer ∷ given) =
+    ((answer ≡ Memory) × (given ≡ [])) ⊎ (IsLineTried m s l answer × AreTried m (standing_after s l answer) ls given)
 
--- there are ids for some edits more, each of which makes at most one node, two edges, two faces, one layer and one feature
-pub record HasIds (S : Drawing) (more : ℕ) : Type 0 where
-  pub nodes : S.next_ids.node + more < 2 ^ 32
-  pub edges : S.next_ids.edge + 2 * more < 2 ^ 32
-  pub faces : S.next_ids.face + 2 * more < 2 ^ 32
-  pub layers : S.next_ids.layer + more < 2 ^ 32
-  pub features : S.next_ids.feature + more < 2 ^ 32
+-- ---- what holds of every run behind a history that was read
+-- after each entry the drawing is a planar subdivision, in which all that a row names is listed
+pub record IsSoundHistory (m : Bounds) (history : List Entry) : Type 0 where
+  pub legal : IsTrue (is_legal m.max_id m.max_journal history)
+  pub subdivision : (n : ℕ) → IsSubdivision (replay (take n history))
+  pub referenced : (n : ℕ) → IsReferenced (replay (take n history))
 
--- some lines more have ids and places
-pub record HasRoom (s : State) (more : ℕ) : Type 0 where
-  pub ids : HasIds s.place.drawing more
-  pub places : s.place.front + more < 2 ^ 64
+-- the history goes on with an entry for each answer Done, in order; it is legal; each answer is right on it, after what was answered before
+pub record IsRightRun (m : Bounds) (read history : List Entry) (ls : List ScriptLine) (given : List Answer) : Type 0 where
+  pub entries : history ≡ read ++ script_history ls given
+  pub sound : IsSoundHistory m history
+  pub right : AreRight m history 1 (length read) (script_edits ls given) (answers_given no_names ls given)
 
--- the lines up to one that wanted memory were tried, and their replies were written
-pub record StopsShort (old new : State) (ls : List ScriptLine) (before now : Option (List ℕ)) : Type 0 where
-  pub tried : ℕ
-  pub inside : tried < length ls
-  pub drawing : new.place.drawing ≡ (next_all old (take tried ls)).place.drawing
-  pub text : Appends before now (replies old (take tried ls))
+-- ---- faults of the disk
+abbrev pub is_disk_fault : Answer → Bool
+is_disk_fault DiskFault = true
+is_disk_fault answer = false
 
--- the replies up to one were written, and a front of that one
-pub record CutsShort (old : State) (ls : List ScriptLine) (before now : Option (List ℕ)) : Type 0 where
-  pub tried : ℕ
-  pub cut : ScriptLine
-  pub inside : tried < length ls
-  pub one_more : take (tried + 1) ls ≡ take tried ls ++ cut ∷ []
-  pub front : List ℕ
-  pub begins : IsFront front (reply (next_all old (take tried ls)) cut)
-  pub text : Appends before now (replies old (take tried ls) ++ front)
+-- the count has risen at least so often, or stands at the end of its type
+abbrev pub RoseBy : ℕ → ℕ → ℕ → Type 0
+RoseBy n before now = min (before + n) (2 ^ 64 - 1) ≤ now
+
+abbrev pub faults_of : Bool → ℕ
+faults_of true = 1
+faults_of false = 0
+
+abbrev pub faults_in : List Answer → ℕ
+faults_in given = sum_by (λ (answer : Answer). faults_of (is_disk_fault answer)) given
+
+-- the status of a run that answered all: 7 where the disk failed in an edit, else 0 where each edit was done, and else 1
+abbrev pub has_fault : List Answer → Bool
+has_fault given = list_any is_disk_fault given
+
+abbrev pub status_of : List Answer → ℕ
+status_of given = if has_fault given then 7 else (if list_all is_done given then 0 else 1)

@@ -1,28 +1,28 @@
-//! The program: runs a script of edits on an empty topology, and prints the replies and the tables.
+//! The program: runs a script of edits on the topology that a journal keeps, or shows what it keeps.
 //!
-//! It stands on all crates below. `solo` is the top call, with the main theorem as its clauses; `main`
-//! hands it the words of the command line, standard input and standard output.
+//! It stands on all crates below. `solo` is the top call, with the main theorem as its clause; `main` hands it the words
+//! of the command line, standard input and standard output, and the file that is named as the journal.
 #![tactic(auto)]
 
-mod commit;
+mod apply;
 mod copies;
 mod end;
-#[cfg(test)]
-mod face_tests;
-#[cfg(test)]
-mod feature_tests;
-mod outside;
 mod run;
+mod served;
+mod show;
 mod solo;
 mod status;
 #[cfg(test)]
 mod tests;
+mod words;
 
-use outside::{StdSink, StdSource};
+use real_edge::{FileDisk, StdSink, StdSource};
+use status::Status;
 use std::alloc::Alloc;
 use std::env::Env;
 use std::process::ExitCode;
 use std::{env, io};
+use topo_disk::MemDisk;
 
 /// The words of the command line behind the program's name.
 fn words_of<R: Env + Alloc>(rt: &R) -> io::Result<Vec<String<R::A>, R::A>> {
@@ -38,6 +38,23 @@ fn words_of<R: Env + Alloc>(rt: &R) -> io::Result<Vec<String<R::A>, R::A>> {
     Ok(words)
 }
 
+/// The call over standard input and output, and over the file that the words name as the journal, or a disk in memory
+/// where they name none.
+fn call(rt: &HostRuntime, words: &[String]) -> Status {
+    let mut source = StdSource::of(rt.reader());
+    let mut sink = StdSink::of(io::writer(rt));
+    match words::journal_word(words) {
+        None => {
+            let disk = MemDisk::plain(rt.alloc(), Vec::new(rt.alloc()));
+            solo::solo(rt.alloc(), words, &mut source, &mut sink, disk).status
+        }
+        Some(path) => match FileDisk::open(rt, path.as_str()) {
+            Ok(disk) => solo::solo(rt.alloc(), words, &mut source, &mut sink, disk).status,
+            Err(_) => end::end_with(&mut sink, b"fault disk\n", 7),
+        },
+    }
+}
+
 fn main(rt: HostRuntime) -> ExitCode {
     let words = match words_of(&rt) {
         Ok(words) => words,
@@ -45,8 +62,5 @@ fn main(rt: HostRuntime) -> ExitCode {
         // A word that isn't text is no form of the program, and neither is no word.
         Err(_) => Vec::new(rt.alloc()),
     };
-    let mut source = StdSource::of(rt.reader());
-    let mut sink = StdSink::of(io::writer(&rt));
-    let status = solo::solo(rt.alloc(), &words, &mut source, &mut sink);
-    ExitCode::from(status.number())
+    ExitCode::from(call(&rt, &words).number())
 }

@@ -1,5 +1,6 @@
 use Rattle.std.proofs.Common.{ℕ, List, ◌++◌, ap, subst, ◌∙◌}
-use Rattle.topo.specs.Endings.{SinkView, Says, says, fault_line}
+use Rattle.topo.specs.Output.{Says, says, fault_line}
+use Rattle.topo.specs.Views.{SinkView}
 use Rattle.topo.proofs.end.end_with_line.Goals as goal
 
 pub returns : goal.returns

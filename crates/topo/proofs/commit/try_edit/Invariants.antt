@@ -1,4 +1,0 @@
-use Rattle.topo.proofs.commit.try_edit.Given as goal
-
-abbrev pub ghosts-try_counted : goal.ghosts-try_counted
-ghosts-try_counted a = record { name = a.blank.name; parts = a.blank.parts }

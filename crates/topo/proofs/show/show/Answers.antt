@@ -1,0 +1,41 @@
+use Rattle.std.proofs.Common.{◌≡◌, IsTrue, ℕ, List, sym, subst, ◌∙◌}
+use Rattle.topo_desk.specs.Boarded.{bounds_of}
+use Rattle.topo_model.specs.Answers.{Bounds}
+use Rattle.topo_model.specs.Journal.{StandsFor, IsBadAt}
+use Rattle.topo_model.specs.Legal.{is_legal}
+use Rattle.topo_recover.specs.Recovered.{IsKept}
+use Rattle.topo.specs.Endings.{standard, Showed, showed, nothing_shown}
+use Rattle.topo.specs.Views.{SinkView, DiskView}
+use Rattle.topo.proofs.Runs.{unread}
+use Rattle.topo.proofs.SoundHistories.{sound_history}
+use Rattle.topo.proofs.show.show.Goals as goal
+
+pub returns-in-Ok : goal.returns-in-Ok
+returns-in-Ok g c =
+    let old : SinkView = record { written = g.K.Sink.written c.args.sink.now; faults = g.K.Sink.faults c.args.sink.now } in
+    let new : SinkView = record { written = g.K.Sink.written c.end_with_shown-status.new.sink; faults = g.K.Sink.faults c.end_with_shown-status.new.sink } in
+    let before : DiskView = record { tells = g.D.Disk.tells; seen = g.D.Disk.seen c.args.disk; may_leave = g.D.Disk.may_leave c.args.disk; faults = g.D.Disk.faults c.args.disk } in
+    let limits : bounds_of c.standard.result ≡ standard = λ i. record { max_id = c.standard.ensures.ids i; max_journal = c.standard.ensures.journal i } in
+    let ends = λ (d : g.row.D.Denot) (s : ℕ). Showed c.args.shown (g.D.Disk.tells → IsKept g.D.Disk.pending g.D.Disk.moment g.D.Disk.seen g.D.Disk.may_leave g.D.Disk.left_since standard c.args.disk d) old new before
+    (record { tells = g.D.Disk.tells; seen = g.D.Disk.seen d; may_leave = g.D.Disk.may_leave d; faults = g.D.Disk.faults d }) s in
+    let d = c.in-Ok.desk.journal.disk in
+    let read = c.in-Ok.desk.board.history in
+    let kept = λ (told : g.D.Disk.tells). subst (λ (m : Bounds). IsKept g.D.Disk.pending g.D.Disk.moment g.D.Disk.seen g.D.Disk.may_leave g.D.Disk.left_since m c.args.disk d) limits (c.in-Ok.ensures.kept told) in
+    let legal = subst (λ (m : Bounds). IsTrue (is_legal m.max_id m.max_journal read)) (c.in-Ok.ensures.bounds ∙ limits) c.end_with_shown-status.ensures.legal in
+    subst (ends c.of.result.disk) (sym c.of.ensures.0)
+    (subst (λ (x : g.row.D.Denot). ends x c.end_with_shown-status.result) (sym (c.of.ensures.1 ∙ c.into_disk.ensures.disk))
+    (showed kept read (λ told. subst (λ (m : Bounds). StandsFor m (g.D.Disk.seen c.args.disk) read) limits (c.in-Ok.ensures.history told)) (sound_history standard read legal) c.in-Ok.ensures.calm c.end_with_shown-status.ensures.prints))
+
+pub returns-in-Err : goal.returns-in-Err
+returns-in-Err g c =
+    let old : SinkView = record { written = g.K.Sink.written c.args.sink.now; faults = g.K.Sink.faults c.args.sink.now } in
+    let new : SinkView = record { written = g.K.Sink.written c.end_unread.new.sink; faults = g.K.Sink.faults c.end_unread.new.sink } in
+    let before : DiskView = record { tells = g.D.Disk.tells; seen = g.D.Disk.seen c.args.disk; may_leave = g.D.Disk.may_leave c.args.disk; faults = g.D.Disk.faults c.args.disk } in
+    let limits : bounds_of c.standard.result ≡ standard = λ i. record { max_id = c.standard.ensures.ids i; max_journal = c.standard.ensures.journal i } in
+    let ends = λ (d : g.row.D.Denot) (s : ℕ). Showed c.args.shown (g.D.Disk.tells → IsKept g.D.Disk.pending g.D.Disk.moment g.D.Disk.seen g.D.Disk.may_leave g.D.Disk.left_since standard c.args.disk d) old new before
+    (record { tells = g.D.Disk.tells; seen = g.D.Disk.seen d; may_leave = g.D.Disk.may_leave d; faults = g.D.Disk.faults d }) s in
+    let d = c.in-Err.disk in
+    let kept = λ (told : g.D.Disk.tells). subst (λ (m : Bounds). IsKept g.D.Disk.pending g.D.Disk.moment g.D.Disk.seen g.D.Disk.may_leave g.D.Disk.left_since m c.args.disk d) limits (c.in-Err.ensures.kept_err told) in
+    let none = unread old new before (record { tells = g.D.Disk.tells; seen = g.D.Disk.seen d; may_leave = g.D.Disk.may_leave d; faults = g.D.Disk.faults d }) c.end_unread.result c.in-Err.end
+    (λ offset is told. subst (λ (m : Bounds). IsBadAt m (g.D.Disk.seen c.args.disk) offset) limits (c.in-Err.ensures.bad told offset is)) c.in-Err.ensures.fault c.in-Err.ensures.calm_err c.end_unread.ensures in
+    subst (ends c.of-in-Err.result.disk) (sym c.of-in-Err.ensures.0) (subst (λ (x : g.row.D.Denot). ends x c.end_unread.result) (sym c.of-in-Err.ensures.1) (nothing_shown kept none))
