@@ -6,24 +6,24 @@ use Rattle.std.proofs.lemmas.Bool.{and_parts, false≢true}
 use Rattle.topo_base.specs.Point.{Point}
 use Rattle.topo_base.specs.declared.edit.Edit.TheVariants.{ModEdgeSplit, NewEdgesSplit, ModEdgeHeal, NewEdgeHeal}
 use Rattle.topo_base.specs.declared.rule.Rule.TheVariants.{NotOnEdge}
-use Rattle.topo_model.specs.Drawing.{Drawing, Edge, edge_at, has_face, has_node, has_only, is_end_of, node_id_of}
-use Rattle.topo_model.specs.HealEdges.{common_nodes, is_closed}
-use Rattle.topo_model.specs.Edits.{heal_edges, heal_mod, heal_new, split_edge, split_mod, split_new}
-use Rattle.topo_model.specs.IsoEdits.{is_in_feature, with_node}
-use Rattle.topo_model.specs.Line.{is_line_end, is_proper, on_line, segments_of}
-use Rattle.topo_model.specs.Outcome.{the_edge, the_node}
-use Rattle.topo_model.specs.Plain.{is_between_nodes}
-use Rattle.topo_model.specs.Relations.{edge_type, features_of, follow, node_type, ordered}
-use Rattle.topo_model.specs.RemoveEdge.{have_same_features}
-use Rattle.topo_model.specs.Replay.{after, drawing_of}
-use Rattle.topo_model.specs.Rows.{without_row}
-use Rattle.topo_model.specs.SplitEdge.{first_part, second_part}
-use Rattle.topo_model.specs.Step.{step}
-use Rattle.topo_model.specs.Subdivision.{is_edge_known}
-use Rattle.topo_model.specs.Apply.{carried_out}
-use Rattle.topo_model.specs.Change.{EdgeIsCut, EdgeIsCutAnew, EdgesAreJoined, EdgesAreJoinedAnew}
-use Rattle.topo_model.proofs.Members.{contains-found}
-use Rattle.topo_model.proofs.PlainSplits.{ComesFrom, from_both}
+use Rattle.drawing.specs.Drawing.{Drawing, Edge, edge_at, has_face, has_node, has_only, is_end_of, node_id_of}
+use Rattle.drawing.specs.HealEdges.{common_nodes, is_closed}
+use Rattle.drawing.specs.Edits.{heal_edges, heal_mod, heal_new, split_edge, split_mod, split_new}
+use Rattle.drawing.specs.IsoEdits.{is_in_feature, with_node}
+use Rattle.plane.specs.Line.{is_line_end, is_proper, on_line, segments_of}
+use Rattle.drawing.specs.Outcome.{the_edge, the_node}
+use Rattle.drawing.specs.Plain.{is_between_nodes}
+use Rattle.drawing.specs.Relations.{edge_type, features_of, follow, node_type, ordered}
+use Rattle.drawing.specs.RemoveEdge.{have_same_features}
+use Rattle.drawing.specs.Replay.{after, drawing_of}
+use Rattle.drawing.specs.Rows.{without_row}
+use Rattle.drawing.specs.SplitEdge.{first_part, second_part}
+use Rattle.drawing.specs.Step.{step}
+use Rattle.drawing.specs.Subdivision.{is_edge_known}
+use Rattle.drawing.specs.Apply.{carried_out}
+use Rattle.drawing.specs.Change.{EdgeIsCut, EdgeIsCutAnew, EdgesAreJoined, EdgesAreJoinedAnew}
+use Rattle.drawing.proofs.Members.{contains-found}
+use Rattle.drawing.proofs.PlainSplits.{ComesFrom, from_both}
 use Rattle.relation_rows.proofs.KnownFeatures.{references_parts}
 use Rattle.relation_rows.proofs.Putting.{ascend_of}
 use Rattle.ring_laws.proofs.Known.{all_out}

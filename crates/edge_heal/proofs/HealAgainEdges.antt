@@ -5,17 +5,17 @@ use Rattle.std.specs.Option.{option_or}
 use Rattle.std.proofs.lemmas.Bool.{and_parts, false≢true, false_from_ne_true, or_cases}
 use Rattle.std.proofs.lemmas.List.{append-nil}
 use Rattle.topo_base.specs.Point.{Point}
-use Rattle.topo_model.specs.Drawing.{Edge, edge_id_of, is_end_of}
-use Rattle.topo_model.specs.HalfEdge.{backward_of, forward_of}
-use Rattle.topo_model.specs.HealEdges.{joined_edge}
-use Rattle.topo_model.specs.Line.{joined, line_from, line_up_to}
-use Rattle.topo_model.specs.Rows.{row_at, with_change, without_row}
-use Rattle.topo_model.specs.SplitEdge.{first_part, second_part}
-use Rattle.topo_model.proofs.ListTests.{contains_here, contains_there}
-use Rattle.topo_model.proofs.Members.{ids_differ, ids_within, pairwise-same}
-use Rattle.topo_model.proofs.Ordering.{InOrder, InOrder-change, InOrder-filter}
-use Rattle.topo_model.proofs.PlainSplits.{ComesFrom, EdgeIdsDiffer, from_changed}
-use Rattle.topo_model.proofs.RowLemmas.{row_at-append, row_at-change_same}
+use Rattle.drawing.specs.Drawing.{Edge, edge_id_of, is_end_of}
+use Rattle.drawing.specs.HalfEdge.{backward_of, forward_of}
+use Rattle.drawing.specs.HealEdges.{joined_edge}
+use Rattle.plane.specs.Line.{joined, line_from, line_up_to}
+use Rattle.drawing.specs.Rows.{row_at, with_change, without_row}
+use Rattle.drawing.specs.SplitEdge.{first_part, second_part}
+use Rattle.plane.proofs.ListTests.{contains_here, contains_there}
+use Rattle.drawing.proofs.Members.{ids_differ, ids_within, pairwise-same}
+use Rattle.drawing.proofs.Ordering.{InOrder, InOrder-change, InOrder-filter}
+use Rattle.drawing.proofs.PlainSplits.{ComesFrom, EdgeIdsDiffer, from_changed}
+use Rattle.drawing.proofs.RowLemmas.{row_at-append, row_at-change_same}
 use Rattle.ring_laws.proofs.Known.{any_out}
 use Rattle.edge_heal.specs.HealLaw.{with_vertex}
 

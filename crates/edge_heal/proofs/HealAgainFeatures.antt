@@ -8,12 +8,12 @@ use Rattle.topo_base.specs.declared.kind.Kind.{Kind}
 use Rattle.topo_base.specs.declared.kind.Kind.TheVariants.{Puntal, Lineal, Areal}
 use Rattle.topo_base.specs.declared.rows.NodeRow.{NodeRow}
 use Rattle.topo_base.specs.declared.rows.RelationRow.{RelationRow}
-use Rattle.topo_model.specs.Drawing.{Drawing, edge_id_of, feature_at, has_node, node_id_of}
-use Rattle.topo_model.specs.Relations.{edge_type, insert_row, lists_element, node_type, ordered}
-use Rattle.topo_model.specs.RemoveEdge.{same_numbers}
-use Rattle.topo_model.specs.Subdivision.{is_row_known, rows_in_order}
-use Rattle.topo_model.proofs.ListTests.{contains_here, contains_there}
-use Rattle.topo_model.proofs.Members.{ids_within}
+use Rattle.drawing.specs.Drawing.{Drawing, edge_id_of, feature_at, has_node, node_id_of}
+use Rattle.drawing.specs.Relations.{edge_type, insert_row, lists_element, node_type, ordered}
+use Rattle.drawing.specs.RemoveEdge.{same_numbers}
+use Rattle.drawing.specs.Subdivision.{is_row_known, rows_in_order}
+use Rattle.plane.proofs.ListTests.{contains_here, contains_there}
+use Rattle.drawing.proofs.Members.{ids_within}
 use Rattle.relation_rows.proofs.KnownFeatures.{KnowsReferences, known_row, layer_in, references_parts}
 use Rattle.relation_rows.proofs.Putting.{ascend_of, commutes}
 use Rattle.ring_laws.proofs.Known.{all_out, any_out}

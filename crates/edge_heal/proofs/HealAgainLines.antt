@@ -5,16 +5,16 @@ use Rattle.std.proofs.lemmas.Bool.{and_parts, false≢true}
 use Rattle.std.proofs.lemmas.Bool.Decides.{not_from_Decides}
 use Rattle.topo_base.specs.Point.{Point, same_point}
 use Rattle.topo_base.specs.RationalPoint.{RationalPoint, IsAt, rational}
-use Rattle.topo_model.specs.Line.{first_vertex, is_inside_line, is_line_end, is_proper, last_vertex, line_from, line_up_to, on_line, segments_of, without_first}
-use Rattle.topo_model.specs.Plain.{IsSimpleLine}
-use Rattle.topo_model.specs.RationalTests.{IsOn, IsOnLine}
-use Rattle.topo_model.specs.Relation.{SameCoordinates}
-use Rattle.topo_model.specs.Segment.{Segment, on_segment}
-use Rattle.topo_model.proofs.BlockedTests.{from_at}
-use Rattle.topo_model.proofs.LineParts.{cut}
-use Rattle.topo_model.proofs.ListTests.{contains_cases, contains_none}
-use Rattle.topo_model.proofs.PointTests.{Decides-on_segment, Decides-same_point}
-use Rattle.topo_model.proofs.Relations.{on_end}
+use Rattle.plane.specs.Line.{first_vertex, is_inside_line, is_line_end, is_proper, last_vertex, line_from, line_up_to, on_line, segments_of, without_first}
+use Rattle.plane.specs.SimpleLine.{IsSimpleLine}
+use Rattle.plane.specs.RationalTests.{IsOn, IsOnLine}
+use Rattle.plane.specs.Relation.{SameCoordinates}
+use Rattle.plane.specs.Segment.{Segment, on_segment}
+use Rattle.plane.proofs.LineTests.{from_at}
+use Rattle.plane.proofs.LineParts.{cut}
+use Rattle.plane.proofs.ListTests.{contains_cases, contains_none}
+use Rattle.plane.proofs.PointTests.{Decides-on_segment, Decides-same_point}
+use Rattle.plane.proofs.Relations.{on_end}
 use Rattle.grid_lines.proofs.Joining.{join_points_of}
 use Rattle.grid_lines.proofs.Splitting.{not_first, same_points, split_points}
 use Rattle.edge_heal.specs.HealLaw.{with_vertex}

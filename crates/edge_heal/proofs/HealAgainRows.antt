@@ -5,9 +5,9 @@ use Rattle.std.proofs.lemmas.Bool.{and_parts, false≢true, or_left, or_right}
 use Rattle.std.proofs.lemmas.Bool.Decides.{nat_tests}
 use Rattle.std.proofs.lemmas.List.Elements.{Contains-append_cases}
 use Rattle.topo_base.specs.declared.rows.RelationRow.{RelationRow}
-use Rattle.topo_model.specs.Drawing.{Drawing}
-use Rattle.topo_model.specs.Relations.{followed, insert_row, is_among, is_hierarchical, lists_element, ordered, row_before, same_row}
-use Rattle.topo_model.proofs.ListTests.{contains_cases, contains_here, contains_none, contains_there}
+use Rattle.drawing.specs.Drawing.{Drawing}
+use Rattle.drawing.specs.Relations.{followed, insert_row, is_among, is_hierarchical, lists_element, ordered, row_before, same_row}
+use Rattle.plane.proofs.ListTests.{contains_cases, contains_here, contains_none, contains_there}
 use Rattle.relation_rows.specs.KnownRows.{HasLayer}
 use Rattle.relation_rows.proofs.MergedInto.{one_row, put_twice}
 use Rattle.relation_rows.proofs.Order.{before_not_after, same_element, same_itself, same_not_before, same_topogeo, same_type}

@@ -6,15 +6,15 @@ use Rattle.topo_base.specs.declared.ids.Dart.{Dart}
 use Rattle.topo_base.specs.declared.rows.Counters.{Counters}
 use Rattle.topo_base.specs.declared.rows.RelationRow.{RelationRow}
 use Rattle.topo_base.specs.declared.write.RowWrite.{RowWrite}
-use Rattle.topo_model.specs.Drawing.{Drawing, Edge, has_node}
-use Rattle.topo_model.specs.HalfEdge.{backward_of, forward_of, half_edges}
-use Rattle.topo_model.specs.HealEdges.{away_from, joined_edge}
-use Rattle.topo_model.specs.Line.{joined}
-use Rattle.topo_model.specs.Tables.{Tables, edge_row, tables_of}
-use Rattle.topo_model.specs.Writable.{CanWriteAll, has_edge_row}
-use Rattle.topo_model.specs.Writes.{all_written}
-use Rattle.topo_model.proofs.Members.{contains-map}
-use Rattle.topo_model.proofs.WritesInOrder.{can_write-append, written-append}
+use Rattle.drawing.specs.Drawing.{Drawing, Edge, has_node}
+use Rattle.drawing.specs.HalfEdge.{backward_of, forward_of, half_edges}
+use Rattle.drawing.specs.HealEdges.{away_from, joined_edge}
+use Rattle.plane.specs.Line.{joined}
+use Rattle.drawing.specs.Tables.{Tables, edge_row, tables_of}
+use Rattle.drawing.specs.Writable.{CanWriteAll, has_edge_row}
+use Rattle.drawing.specs.Writes.{all_written}
+use Rattle.drawing.proofs.Members.{contains-map}
+use Rattle.drawing.proofs.WritesInOrder.{can_write-append, written-append}
 use Rattle.edge_links.proofs.Linking.{all_set}
 use Rattle.edge_links.proofs.Writing.{can_link}
 use Rattle.edge_heal.specs.HealWrites.{healed_edges, last_heal_writes, mod_heal_in, mod_heal_writes}

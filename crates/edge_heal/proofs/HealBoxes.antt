@@ -7,13 +7,13 @@ use Rattle.std.proofs.lemmas.List.{length-reverse, reverse-reverse}
 use Rattle.std.proofs.lemmas.List.Elements.{Contains-append_cases, Contains-append_left, Contains-append_right}
 use Rattle.topo_base.specs.Point.{Point}
 use Rattle.topo_base.specs.declared.rows.Box4.{Box4}
-use Rattle.topo_model.specs.Drawing.{Drawing, Edge}
-use Rattle.topo_model.specs.HalfEdge.{backward_of, forward_of}
-use Rattle.topo_model.specs.HealEdges.{away_from, joined_edge}
-use Rattle.topo_model.specs.Line.{first_vertex, joined, last_vertex}
-use Rattle.topo_model.specs.Subdivision.{rings_have_one_face}
-use Rattle.topo_model.specs.Tables.{face_box, face_row, has_side}
-use Rattle.topo_model.proofs.ListTests.{contains_cases, contains_here, contains_none, contains_there}
+use Rattle.drawing.specs.Drawing.{Drawing, Edge}
+use Rattle.drawing.specs.HalfEdge.{backward_of, forward_of}
+use Rattle.drawing.specs.HealEdges.{away_from, joined_edge}
+use Rattle.plane.specs.Line.{first_vertex, joined, last_vertex}
+use Rattle.drawing.specs.Subdivision.{rings_have_one_face}
+use Rattle.drawing.specs.Tables.{face_box, face_row, has_side}
+use Rattle.plane.proofs.ListTests.{contains_cases, contains_here, contains_none, contains_there}
 use Rattle.face_rings.proofs.HalfLines.{HasPlainLines}
 use Rattle.ring_laws.proofs.HealedSides.{IsHealed}
 use Rattle.edge_heal.proofs.HealLinks.{edge_cases, make_joint}

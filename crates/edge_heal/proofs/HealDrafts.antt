@@ -4,12 +4,12 @@ use Rattle.std.specs.Prelude.{◌==◌}
 use Rattle.std.specs.List.{Contains}
 use Rattle.topo_base.specs.declared.rows.EdgeRow.{EdgeRow}
 use Rattle.topo_base.specs.declared.write.RowWrite.{RowWrite}
-use Rattle.topo_model.specs.Drawing.{Drawing}
-use Rattle.topo_model.specs.HalfEdge.{half_edges}
-use Rattle.topo_model.specs.Outcome.{the_edge, the_node}
-use Rattle.topo_model.specs.Tables.{Tables, drawn_edge, tables_of}
-use Rattle.topo_model.specs.Writable.{CanWriteAll}
-use Rattle.topo_model.specs.Writes.{all_written}
+use Rattle.drawing.specs.Drawing.{Drawing}
+use Rattle.drawing.specs.HalfEdge.{half_edges}
+use Rattle.drawing.specs.Outcome.{the_edge, the_node}
+use Rattle.drawing.specs.Tables.{Tables, drawn_edge, tables_of}
+use Rattle.drawing.specs.Writable.{CanWriteAll}
+use Rattle.drawing.specs.Writes.{all_written}
 use Rattle.read_set.specs.Drafted.{IsDraftOf}
 use Rattle.read_set.specs.Edited.{IsEdited}
 use Rattle.edge_heal.specs.HealWrites.{merged_rows, mod_heal_in, mod_heal_rows, mod_heal_writes}

@@ -7,20 +7,20 @@ use Rattle.std.proofs.lemmas.List.Elements.{Contains-append_left, Contains-push,
 use Rattle.topo_base.specs.declared.edit.Edit.TheVariants.{ModEdgeHeal, NewEdgeHeal}
 use Rattle.topo_base.specs.declared.rows.EdgeRow.{EdgeRow}
 use Rattle.topo_base.specs.declared.rule.Rule.TheVariants.{ClosedEdge, HealSplitsFeature, NodeInFeature, NotJoined}
-use Rattle.topo_model.specs.Drawing.{Drawing, Edge, edge_at, edge_id_of, has_node, has_only, is_end_of}
-use Rattle.topo_model.specs.HalfEdge.{half_edges}
-use Rattle.topo_model.specs.HealEdges.{common_nodes, healed_node, is_closed, is_nothing, joined_edge}
-use Rattle.topo_model.specs.Edits.{heal_at, heal_edges, heal_mod, heal_new}
-use Rattle.topo_model.specs.Outcome.{Outcome}
-use Rattle.topo_model.specs.Relations.{edge_type, follow}
-use Rattle.topo_model.specs.Replay.{drawing_of}
-use Rattle.topo_model.specs.Rows.{without_row}
-use Rattle.topo_model.specs.Tables.{drawn_edge, edge_row, tables_of}
-use Rattle.topo_model.specs.Apply.{Decision, carried_out}
-use Rattle.topo_model.specs.Decide.{edges_joined_at}
-use Rattle.topo_model.specs.Change.{EdgesAreJoined, EdgesAreJoinedAnew}
-use Rattle.topo_model.proofs.ListTests.{contains_cases, contains_none}
-use Rattle.topo_model.proofs.Members.{contains-filtered, contains-found, contains-mapped}
+use Rattle.drawing.specs.Drawing.{Drawing, Edge, edge_at, edge_id_of, has_node, has_only, is_end_of}
+use Rattle.drawing.specs.HalfEdge.{half_edges}
+use Rattle.drawing.specs.HealEdges.{common_nodes, healed_node, is_closed, is_nothing, joined_edge}
+use Rattle.drawing.specs.Edits.{heal_at, heal_edges, heal_mod, heal_new}
+use Rattle.drawing.specs.Outcome.{Outcome}
+use Rattle.drawing.specs.Relations.{edge_type, follow}
+use Rattle.drawing.specs.Replay.{drawing_of}
+use Rattle.drawing.specs.Rows.{without_row}
+use Rattle.drawing.specs.Tables.{drawn_edge, edge_row, tables_of}
+use Rattle.drawing.specs.Apply.{Decision, carried_out}
+use Rattle.drawing.specs.Decide.{edges_joined_at}
+use Rattle.drawing.specs.Change.{EdgesAreJoined, EdgesAreJoinedAnew}
+use Rattle.plane.proofs.ListTests.{contains_cases, contains_none}
+use Rattle.drawing.proofs.Members.{contains-filtered, contains-found, contains-mapped}
 use Rattle.face_rings.proofs.FaceBorders.{has_plain_lines}
 use Rattle.face_rings.proofs.HalfLines.{HasPlainLines}
 use Rattle.face_rings.proofs.HalvesApart.{one_edge}

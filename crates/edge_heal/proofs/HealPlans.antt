@@ -4,20 +4,20 @@ use Rattle.std.specs.Option.{option_copied}
 use Rattle.std.specs.List.{Contains}
 use Rattle.topo_base.specs.declared.rows.EdgeRow.{EdgeRow}
 use Rattle.topo_base.specs.declared.rule.Rule.TheVariants.{HealSplitsFeature, NoEdge, NodeInFeature}
-use Rattle.topo_model.specs.Drawing.{Drawing, Edge, edge_at}
-use Rattle.topo_model.specs.Edits.{heal_at, heal_edges, heal_mod, heal_new}
-use Rattle.topo_model.specs.IsoEdits.{is_in_feature}
-use Rattle.topo_model.specs.Outcome.{Outcome}
-use Rattle.topo_model.specs.Relations.{edge_type, node_type}
-use Rattle.topo_model.specs.RemoveEdge.{have_same_features}
-use Rattle.topo_model.specs.Rows.{row_at}
-use Rattle.topo_model.specs.Tables.{Tables, drawn, drawn_edge, tables_of}
-use Rattle.topo_model.specs.Writes.{edge_row_id}
+use Rattle.drawing.specs.Drawing.{Drawing, Edge, edge_at}
+use Rattle.drawing.specs.Edits.{heal_at, heal_edges, heal_mod, heal_new}
+use Rattle.drawing.specs.IsoEdits.{is_in_feature}
+use Rattle.drawing.specs.Outcome.{Outcome}
+use Rattle.drawing.specs.Relations.{edge_type, node_type}
+use Rattle.drawing.specs.RemoveEdge.{have_same_features}
+use Rattle.drawing.specs.Rows.{row_at}
+use Rattle.drawing.specs.Tables.{Tables, drawn, drawn_edge, tables_of}
+use Rattle.drawing.specs.Writes.{edge_row_id}
 use Rattle.edit_conditions.proofs.RowTests.{edge_found, edge_none}
 use Rattle.read_set.specs.declared.end.PlanEnd.{PlanEnd}
 use Rattle.read_set.specs.Edited.{AnswersOutcome}
-use Rattle.topo_model.specs.Apply.{carried_out}
-use Rattle.topo_model.specs.Change.{EdgesAreJoined, EdgesAreJoinedAnew}
+use Rattle.drawing.specs.Apply.{carried_out}
+use Rattle.drawing.specs.Change.{EdgesAreJoined, EdgesAreJoinedAnew}
 use Rattle.edge_heal.specs.Healing.{IsRowOf, heal_done_by}
 use Rattle.read_set.specs.declared.edited.Edited.{Edited}
 use Rattle.edge_heal.proofs.SplitDrafts.{row_found}

@@ -4,10 +4,10 @@ use Rattle.std.specs.Prelude.{flat_map, ◌==◌}
 use Rattle.topo_base.specs.declared.ids.Dart.{Dart}
 use Rattle.topo_base.specs.declared.rows.Counters.{Counters}
 use Rattle.topo_base.specs.declared.rows.RelationRow.{RelationRow}
-use Rattle.topo_model.specs.Drawing.{Drawing, Edge}
-use Rattle.topo_model.specs.HalfEdge.{HalfEdge, backward_of, both_ways, dart_of, forward_of, half_edges, twin}
-use Rattle.topo_model.specs.HealEdges.{away_from, joined_edge}
-use Rattle.topo_model.specs.Star.{next_of}
+use Rattle.drawing.specs.Drawing.{Drawing, Edge}
+use Rattle.drawing.specs.HalfEdge.{HalfEdge, backward_of, both_ways, dart_of, forward_of, half_edges, twin}
+use Rattle.drawing.specs.HealEdges.{away_from, joined_edge}
+use Rattle.drawing.specs.Star.{next_of}
 use Rattle.edge_heal.proofs.HealLinks.{AreBoth, IsHealOf, joined_links, name_in}
 use Rattle.edge_heal.proofs.LinkWrites.{follower}
 

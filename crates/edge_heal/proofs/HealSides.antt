@@ -3,12 +3,12 @@ use Rattle.std.proofs.Common.{◌≡◌, ℕ, sym, ◌∙◌, ap, subst, ◌⊎�
 use Rattle.std.specs.Prelude.{◌==◌}
 use Rattle.std.specs.List.{Contains}
 use Rattle.std.proofs.lemmas.Bool.{or_left, or_right}
-use Rattle.topo_model.specs.Drawing.{Drawing, Edge, is_end_of}
-use Rattle.topo_model.specs.HalfEdge.{HalfEdge, backward_of, forward_of, half_edges, twin}
-use Rattle.topo_model.specs.HealEdges.{joined_edge}
-use Rattle.topo_model.specs.Star.{next_of}
-use Rattle.topo_model.specs.Subdivision.{rings_have_one_face}
-use Rattle.topo_model.specs.Tables.{has_side}
+use Rattle.drawing.specs.Drawing.{Drawing, Edge, is_end_of}
+use Rattle.drawing.specs.HalfEdge.{HalfEdge, backward_of, forward_of, half_edges, twin}
+use Rattle.drawing.specs.HealEdges.{joined_edge}
+use Rattle.drawing.specs.Star.{next_of}
+use Rattle.drawing.specs.Subdivision.{rings_have_one_face}
+use Rattle.drawing.specs.Tables.{has_side}
 use Rattle.face_rings.proofs.HalfLines.{HasPlainLines}
 use Rattle.face_rings.proofs.HalvesApart.{half_of}
 use Rattle.face_rings.proofs.Ranks.{by_bool}

@@ -6,14 +6,14 @@ use Rattle.topo_base.specs.declared.ids.Dart.{Dart}
 use Rattle.topo_base.specs.declared.rows.Counters.{Counters}
 use Rattle.topo_base.specs.declared.rows.EdgeRow.{EdgeRow}
 use Rattle.topo_base.specs.declared.rows.RelationRow.{RelationRow}
-use Rattle.topo_model.specs.Drawing.{Drawing, Edge, edge_id_of}
-use Rattle.topo_model.specs.HalfEdge.{HalfEdge, both_ways, half_edges}
-use Rattle.topo_model.specs.HealEdges.{away_from, joined_edge}
-use Rattle.topo_model.specs.Line.{joined}
-use Rattle.topo_model.specs.Rows.{without_row}
-use Rattle.topo_model.specs.Tables.{edge_row}
-use Rattle.topo_model.specs.Writes.{edge_row_id, with_next}
-use Rattle.topo_model.proofs.ListTests.{contains_here, contains_there}
+use Rattle.drawing.specs.Drawing.{Drawing, Edge, edge_id_of}
+use Rattle.drawing.specs.HalfEdge.{HalfEdge, both_ways, half_edges}
+use Rattle.drawing.specs.HealEdges.{away_from, joined_edge}
+use Rattle.plane.specs.Line.{joined}
+use Rattle.drawing.specs.Rows.{without_row}
+use Rattle.drawing.specs.Tables.{edge_row}
+use Rattle.drawing.specs.Writes.{edge_row_id, with_next}
+use Rattle.plane.proofs.ListTests.{contains_here, contains_there}
 use Rattle.face_rings.proofs.HalvesApart.{one_edge}
 use Rattle.edge_links.specs.Links.{hand_back}
 use Rattle.edge_links.proofs.Linking.{Link, all_set, row_with}

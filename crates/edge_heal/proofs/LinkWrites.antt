@@ -7,12 +7,12 @@ use Rattle.topo_base.specs.Darts.{same_dart, same_way}
 use Rattle.topo_base.specs.declared.ids.Dart.{Dart}
 use Rattle.topo_base.specs.declared.rows.Counters.{Counters}
 use Rattle.topo_base.specs.declared.rows.EdgeRow.{EdgeRow}
-use Rattle.topo_model.specs.Drawing.{Edge}
-use Rattle.topo_model.specs.HalfEdge.{HalfEdge, backward_of, dart_of, forward_of}
-use Rattle.topo_model.specs.Star.{next_of}
-use Rattle.topo_model.specs.Tables.{Tables, edge_row}
-use Rattle.topo_model.specs.Writes.{all_written, edge_row_id, with_next, written}
-use Rattle.topo_model.proofs.ListTests.{contains_cases, contains_here, contains_none, contains_there}
+use Rattle.drawing.specs.Drawing.{Edge}
+use Rattle.drawing.specs.HalfEdge.{HalfEdge, backward_of, dart_of, forward_of}
+use Rattle.drawing.specs.Star.{next_of}
+use Rattle.drawing.specs.Tables.{Tables, edge_row}
+use Rattle.drawing.specs.Writes.{all_written, edge_row_id, with_next, written}
+use Rattle.plane.proofs.ListTests.{contains_cases, contains_here, contains_none, contains_there}
 use Rattle.face_rings.proofs.Ranks.{by_bool, same_out}
 use Rattle.edge_links.specs.Links.{hand_back}
 use Rattle.edge_links.proofs.Linking.{AreRight, Link, all_set, becomes_right, is_of, link_after, link_write, map_append, row_after, row_with, stays_right}

@@ -8,16 +8,16 @@ use Rattle.topo_base.specs.declared.rows.Counters.{Counters}
 use Rattle.topo_base.specs.declared.rows.EdgeRow.{EdgeRow}
 use Rattle.topo_base.specs.declared.rows.RelationRow.{RelationRow}
 use Rattle.topo_base.specs.declared.write.RowWrite.{RowWrite}
-use Rattle.topo_model.specs.Drawing.{Drawing, Edge, has_face, has_node}
-use Rattle.topo_model.specs.HalfEdge.{half_edges}
-use Rattle.topo_model.specs.HealEdges.{joined_edge}
-use Rattle.topo_model.specs.Rows.{has_row, without_row}
-use Rattle.topo_model.specs.Tables.{Tables, edge_row, tables_of}
-use Rattle.topo_model.specs.Writable.{CanWrite, CanWriteAll, has_edge_or_next, has_edge_row}
-use Rattle.topo_model.specs.Writes.{all_written, dart_named, edge_row_id, written}
-use Rattle.topo_model.proofs.ListTests.{contains_here}
-use Rattle.topo_model.proofs.Members.{contains-filter, contains-map}
-use Rattle.topo_model.proofs.WritesInOrder.{can_write-append, written-append}
+use Rattle.drawing.specs.Drawing.{Drawing, Edge, has_face, has_node}
+use Rattle.drawing.specs.HalfEdge.{half_edges}
+use Rattle.drawing.specs.HealEdges.{joined_edge}
+use Rattle.drawing.specs.Rows.{has_row, without_row}
+use Rattle.drawing.specs.Tables.{Tables, edge_row, tables_of}
+use Rattle.drawing.specs.Writable.{CanWrite, CanWriteAll, has_edge_or_next, has_edge_row}
+use Rattle.drawing.specs.Writes.{all_written, dart_named, edge_row_id, written}
+use Rattle.plane.proofs.ListTests.{contains_here}
+use Rattle.drawing.proofs.Members.{contains-filter, contains-map}
+use Rattle.drawing.proofs.WritesInOrder.{can_write-append, written-append}
 use Rattle.ring_laws.proofs.Known.{any_in, any_out}
 use Rattle.edge_links.proofs.Linking.{all_set}
 use Rattle.edge_links.proofs.Writing.{can_link}

@@ -3,12 +3,12 @@ use Rattle.std.proofs.Common.{◌≡◌, ℕ, sym, ◌∙◌, ap, subst, arith, 
 use Rattle.std.specs.Prelude.{◌==◌}
 use Rattle.topo_base.specs.declared.rows.EdgeRow.{EdgeRow}
 use Rattle.topo_base.specs.declared.write.RowWrite.{RowWrite}
-use Rattle.topo_model.specs.Drawing.{Drawing, Edge}
-use Rattle.topo_model.specs.Outcome.{the_edge, the_node}
-use Rattle.topo_model.specs.Relations.{edge_type}
-use Rattle.topo_model.specs.Tables.{Tables, drawn, drawn_edge, tables_of}
-use Rattle.topo_model.specs.Writable.{CanWriteAll}
-use Rattle.topo_model.specs.Writes.{all_written}
+use Rattle.drawing.specs.Drawing.{Drawing, Edge}
+use Rattle.drawing.specs.Outcome.{the_edge, the_node}
+use Rattle.drawing.specs.Relations.{edge_type}
+use Rattle.drawing.specs.Tables.{Tables, drawn, drawn_edge, tables_of}
+use Rattle.drawing.specs.Writable.{CanWriteAll}
+use Rattle.drawing.specs.Writes.{all_written}
 use Rattle.read_set.specs.Drafted.{IsDraftOf}
 use Rattle.relation_rows.specs.KnownRows.{KnowsRows}
 use Rattle.relation_rows.proofs.MergedInto.{follow_two, knows_followed, knows_rows}

@@ -6,14 +6,14 @@ use Rattle.topo_base.specs.declared.ids.Dart.{Dart}
 use Rattle.topo_base.specs.declared.rows.Counters.{Counters}
 use Rattle.topo_base.specs.declared.rows.EdgeRow.{EdgeRow}
 use Rattle.topo_base.specs.declared.rows.RelationRow.{RelationRow}
-use Rattle.topo_model.specs.Drawing.{Drawing, Edge, edge_id_of}
-use Rattle.topo_model.specs.HalfEdge.{both_ways, half_edges}
-use Rattle.topo_model.specs.HealEdges.{joined_edge}
-use Rattle.topo_model.specs.Rows.{without_row}
-use Rattle.topo_model.specs.Tables.{edge_row}
-use Rattle.topo_model.specs.Writes.{edge_row_id}
-use Rattle.topo_model.proofs.ListTests.{contains_here, contains_there}
-use Rattle.topo_model.proofs.Members.{ids_within}
+use Rattle.drawing.specs.Drawing.{Drawing, Edge, edge_id_of}
+use Rattle.drawing.specs.HalfEdge.{both_ways, half_edges}
+use Rattle.drawing.specs.HealEdges.{joined_edge}
+use Rattle.drawing.specs.Rows.{without_row}
+use Rattle.drawing.specs.Tables.{edge_row}
+use Rattle.drawing.specs.Writes.{edge_row_id}
+use Rattle.plane.proofs.ListTests.{contains_here, contains_there}
+use Rattle.drawing.proofs.Members.{ids_within}
 use Rattle.face_rings.proofs.HalvesApart.{one_edge}
 use Rattle.edge_links.proofs.Linking.{all_set, row_with}
 use Rattle.edge_heal.specs.NewHeal.{new_healed_edges}

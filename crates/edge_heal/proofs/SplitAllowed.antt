@@ -13,19 +13,19 @@ use Rattle.topo_base.specs.declared.rows.RelationRow.{RelationRow}
 use Rattle.topo_base.specs.declared.write.RowId.TheVariants.{Old}
 use Rattle.topo_base.specs.declared.write.RowWrite.{RowWrite}
 use Rattle.topo_base.specs.declared.write.RowWrite.TheVariants.{AddNode}
-use Rattle.topo_model.specs.Drawing.{Drawing, Edge, has_face, has_node, node_id_of}
-use Rattle.topo_model.specs.HalfEdge.{HalfEdge, backward_of, forward_of, half_edges}
-use Rattle.topo_model.specs.Line.{line_up_to}
-use Rattle.topo_model.specs.SplitEdge.{first_part, second_part}
-use Rattle.topo_model.specs.Star.{next_of}
-use Rattle.topo_model.specs.Subdivision.{is_edge_known}
-use Rattle.topo_model.specs.Tables.{Tables, edge_row, face_row, tables_of}
-use Rattle.topo_model.specs.Writable.{CanWriteAll, has_edge_or_next, has_edge_row}
-use Rattle.topo_model.specs.Writes.{all_written, edge_row_id, written}
-use Rattle.topo_model.proofs.ListTests.{contains_here}
-use Rattle.topo_model.proofs.Members.{contains-map}
-use Rattle.topo_model.proofs.TableLemmas.{list_any-map}
-use Rattle.topo_model.proofs.WritesInOrder.{can_write-append}
+use Rattle.drawing.specs.Drawing.{Drawing, Edge, has_face, has_node, node_id_of}
+use Rattle.drawing.specs.HalfEdge.{HalfEdge, backward_of, forward_of, half_edges}
+use Rattle.plane.specs.Line.{line_up_to}
+use Rattle.drawing.specs.SplitEdge.{first_part, second_part}
+use Rattle.drawing.specs.Star.{next_of}
+use Rattle.drawing.specs.Subdivision.{is_edge_known}
+use Rattle.drawing.specs.Tables.{Tables, edge_row, face_row, tables_of}
+use Rattle.drawing.specs.Writable.{CanWriteAll, has_edge_or_next, has_edge_row}
+use Rattle.drawing.specs.Writes.{all_written, edge_row_id, written}
+use Rattle.plane.proofs.ListTests.{contains_here}
+use Rattle.drawing.proofs.Members.{contains-map}
+use Rattle.drawing.proofs.TableLemmas.{list_any-map}
+use Rattle.drawing.proofs.WritesInOrder.{can_write-append}
 use Rattle.face_rings.proofs.HalfLines.{HasPlainLines}
 use Rattle.face_rings.proofs.HalvesApart.{backward_there, forward_there, half_of}
 use Rattle.ring_laws.proofs.Known.{all_out, any_in}

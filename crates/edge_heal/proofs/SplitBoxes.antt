@@ -9,17 +9,17 @@ use Rattle.std.proofs.lemmas.List.Elements.{All-contains, Contains-append_cases,
 use Rattle.topo_base.specs.Point.{Point, same_point}
 use Rattle.topo_base.specs.RationalPoint.{IsBetween}
 use Rattle.topo_base.specs.declared.rows.Box4.{Box4}
-use Rattle.topo_model.specs.Drawing.{Drawing, Edge}
-use Rattle.topo_model.specs.Line.{line_from, line_up_to, on_line}
-use Rattle.topo_model.specs.Orientation.{is_straight}
-use Rattle.topo_model.specs.Segment.{is_between, on_segment}
-use Rattle.topo_model.specs.SplitEdge.{first_part, second_part}
-use Rattle.topo_model.specs.Tables.{box_at, face_box, face_row, has_side, least_box, wider}
-use Rattle.topo_model.proofs.ListTests.{contains_cases, contains_here, contains_none, contains_there}
-use Rattle.topo_model.proofs.Members.{contains-filter, contains-filtered, contains-map, contains-mapped}
-use Rattle.topo_model.proofs.PointTests.{Decides-between}
-use Rattle.topo_model.proofs.Ring.{signed}
-use Rattle.topo_model.proofs.SegmentParts.{segment}
+use Rattle.drawing.specs.Drawing.{Drawing, Edge}
+use Rattle.plane.specs.Line.{line_from, line_up_to, on_line}
+use Rattle.plane.specs.Orientation.{is_straight}
+use Rattle.plane.specs.Segment.{is_between, on_segment}
+use Rattle.drawing.specs.SplitEdge.{first_part, second_part}
+use Rattle.drawing.specs.Tables.{box_at, face_box, face_row, has_side, least_box, wider}
+use Rattle.plane.proofs.ListTests.{contains_cases, contains_here, contains_none, contains_there}
+use Rattle.drawing.proofs.Members.{contains-filter, contains-filtered, contains-map, contains-mapped}
+use Rattle.plane.proofs.PointTests.{Decides-between}
+use Rattle.plane.proofs.Ring.{signed}
+use Rattle.plane.proofs.SegmentParts.{segment}
 use Rattle.std.proofs.lemmas.Bool.{and_parts}
 use Rattle.face_rings.proofs.HalfLines.{HasPlainLines}
 use Rattle.face_rings.proofs.HalvesApart.{one_edge}

@@ -5,21 +5,21 @@ use Rattle.std.specs.List.{Contains}
 use Rattle.topo_base.specs.Point.{Point}
 use Rattle.topo_base.specs.declared.rows.EdgeRow.{EdgeRow}
 use Rattle.topo_base.specs.declared.write.RowWrite.{RowWrite}
-use Rattle.topo_model.specs.Content.{listing}
-use Rattle.topo_model.specs.Drawing.{Drawing, edge_at}
-use Rattle.topo_model.specs.Line.{is_inside_line, is_proper, is_simple, segments_of}
-use Rattle.topo_model.specs.LinePoints.{has_proper_segments}
-use Rattle.topo_model.specs.Outcome.{the_edge, the_node}
-use Rattle.topo_model.specs.Plain.{IsPlain}
-use Rattle.topo_model.specs.Relation.{IsProper}
-use Rattle.topo_model.specs.Relations.{edge_type, lists_element}
-use Rattle.topo_model.specs.Rows.{row_at}
-use Rattle.topo_model.specs.Tables.{Tables, drawn, drawn_edge, tables_of}
-use Rattle.topo_model.specs.Writable.{CanWriteAll}
-use Rattle.topo_model.specs.Writes.{all_written, edge_row_id}
-use Rattle.topo_model.proofs.Members.{contains-found}
-use Rattle.topo_model.proofs.ListTests.{Decides-all}
-use Rattle.topo_model.proofs.SimpleTests.{Decides-proper, Decides-simple}
+use Rattle.drawing.specs.Content.{listing}
+use Rattle.drawing.specs.Drawing.{Drawing, edge_at}
+use Rattle.plane.specs.Line.{is_inside_line, is_proper, is_simple, segments_of}
+use Rattle.plane.specs.LinePoints.{has_proper_segments}
+use Rattle.drawing.specs.Outcome.{the_edge, the_node}
+use Rattle.drawing.specs.Plain.{IsPlain}
+use Rattle.plane.specs.Relation.{IsProper}
+use Rattle.drawing.specs.Relations.{edge_type, lists_element}
+use Rattle.drawing.specs.Rows.{row_at}
+use Rattle.drawing.specs.Tables.{Tables, drawn, drawn_edge, tables_of}
+use Rattle.drawing.specs.Writable.{CanWriteAll}
+use Rattle.drawing.specs.Writes.{all_written, edge_row_id}
+use Rattle.drawing.proofs.Members.{contains-found}
+use Rattle.plane.proofs.ListTests.{Decides-all}
+use Rattle.plane.proofs.SimpleTests.{Decides-proper, Decides-simple}
 use Rattle.edit_conditions.proofs.RowTests.{edge_found, proper_rows}
 use Rattle.face_rings.proofs.FaceBorders.{has_plain_lines}
 use Rattle.read_set.specs.Drafted.{IsDraftOf}

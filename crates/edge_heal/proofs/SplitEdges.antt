@@ -8,23 +8,23 @@ use Rattle.topo_base.specs.Point.{Point, same_point}
 use Rattle.topo_base.specs.declared.edit.Edit.TheVariants.{ModEdgeSplit, NewEdgesSplit}
 use Rattle.topo_base.specs.declared.rule.Rule.TheVariants.{NotOnEdge}
 use Rattle.topo_base.specs.declared.rows.EdgeRow.{EdgeRow}
-use Rattle.topo_model.specs.Drawing.{Drawing, Edge, edge_at, edge_id_of}
-use Rattle.topo_model.specs.HalfEdge.{half_edges}
-use Rattle.topo_model.specs.Line.{first_vertex, is_inside_line, is_line_end, last_vertex, on_line}
-use Rattle.topo_model.specs.Outcome.{Outcome}
-use Rattle.topo_model.specs.Relation.{SameCoordinates}
-use Rattle.topo_model.specs.Relations.{edge_type, follow}
-use Rattle.topo_model.specs.Replay.{drawing_of}
-use Rattle.topo_model.specs.Rows.{with_change, without_row}
-use Rattle.topo_model.specs.SplitEdge.{first_part, second_part}
-use Rattle.topo_model.specs.Edits.{split_edge, split_mod, split_new}
-use Rattle.topo_model.specs.Tables.{drawn_edge, edge_row}
-use Rattle.topo_model.specs.Apply.{Decision, carried_out}
-use Rattle.topo_model.specs.Change.{EdgeIsCut, EdgeIsCutAnew}
-use Rattle.topo_model.proofs.ListTests.{contains_here, contains_there}
-use Rattle.topo_model.proofs.Members.{contains-filter, contains-map, contains-mapped, ids_differ}
-use Rattle.topo_model.proofs.PlainSplits.{from_both, from_changed}
-use Rattle.topo_model.proofs.PointTests.{Decides-same_point}
+use Rattle.drawing.specs.Drawing.{Drawing, Edge, edge_at, edge_id_of}
+use Rattle.drawing.specs.HalfEdge.{half_edges}
+use Rattle.plane.specs.Line.{first_vertex, is_inside_line, is_line_end, last_vertex, on_line}
+use Rattle.drawing.specs.Outcome.{Outcome}
+use Rattle.plane.specs.Relation.{SameCoordinates}
+use Rattle.drawing.specs.Relations.{edge_type, follow}
+use Rattle.drawing.specs.Replay.{drawing_of}
+use Rattle.drawing.specs.Rows.{with_change, without_row}
+use Rattle.drawing.specs.SplitEdge.{first_part, second_part}
+use Rattle.drawing.specs.Edits.{split_edge, split_mod, split_new}
+use Rattle.drawing.specs.Tables.{drawn_edge, edge_row}
+use Rattle.drawing.specs.Apply.{Decision, carried_out}
+use Rattle.drawing.specs.Change.{EdgeIsCut, EdgeIsCutAnew}
+use Rattle.plane.proofs.ListTests.{contains_here, contains_there}
+use Rattle.drawing.proofs.Members.{contains-filter, contains-map, contains-mapped, ids_differ}
+use Rattle.drawing.proofs.PlainSplits.{from_both, from_changed}
+use Rattle.plane.proofs.PointTests.{Decides-same_point}
 use Rattle.face_rings.proofs.FaceBorders.{has_plain_lines}
 use Rattle.face_rings.proofs.HalfLines.{HasPlainLines}
 use Rattle.ring_laws.specs.Ringed.{IsRinged}

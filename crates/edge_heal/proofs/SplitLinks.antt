@@ -7,13 +7,13 @@ use Rattle.topo_base.specs.Point.{Point}
 use Rattle.topo_base.specs.declared.ids.Dart.{Dart}
 use Rattle.topo_base.specs.declared.rows.RelationRow.{RelationRow}
 use Rattle.topo_base.specs.declared.rows.Counters.{Counters}
-use Rattle.topo_model.specs.Direction.{Direction, is_nearer, quarter, same_direction, OneDirection, IsNotZero}
-use Rattle.topo_model.specs.Drawing.{Drawing, Edge, is_end_of, is_isolated}
-use Rattle.topo_model.specs.HalfEdge.{HalfEdge, backward_of, both_ways, dart_of, forward_of, half_edges, twin}
-use Rattle.topo_model.specs.PlainLaw.{IsPlainInOrder}
-use Rattle.topo_model.specs.SplitEdge.{first_part, second_part}
-use Rattle.topo_model.specs.Star.{leaving, next_of}
-use Rattle.topo_model.proofs.Directions.{nearer_self, nearer_total, same_in, same_out}
+use Rattle.plane.specs.Direction.{Direction, is_nearer, quarter, same_direction, OneDirection, IsNotZero}
+use Rattle.drawing.specs.Drawing.{Drawing, Edge, is_end_of, is_isolated}
+use Rattle.drawing.specs.HalfEdge.{HalfEdge, backward_of, both_ways, dart_of, forward_of, half_edges, twin}
+use Rattle.drawing.specs.PlainInOrder.{IsPlainInOrder}
+use Rattle.drawing.specs.SplitEdge.{first_part, second_part}
+use Rattle.drawing.specs.Star.{leaving, next_of}
+use Rattle.plane.proofs.Directions.{nearer_self, nearer_total, same_in, same_out}
 use Rattle.face_rings.proofs.HalfLines.{HasPlainLines}
 use Rattle.face_rings.proofs.HalvesApart.{half_of, forward_there, backward_there, one_edge}
 use Rattle.face_rings.proofs.Ranks.{by_bool}

@@ -6,7 +6,7 @@ use Rattle.topo_base.specs.declared.write.Hand.TheVariants.{Left}
 use Rattle.topo_base.specs.declared.write.RowId.TheVariants.{Old}
 use Rattle.topo_base.specs.declared.write.RowWrite.{RowWrite}
 use Rattle.topo_base.specs.declared.write.RowWrite.TheVariants.{AddNode, SetLine, SetNext}
-use Rattle.topo_model.specs.Line.{line_up_to}
+use Rattle.plane.specs.Line.{line_up_to}
 use Rattle.edge_heal.specs.Renamed.{renamed}
 use Rattle.edge_heal.specs.Writes.{all_relinks, dart_named, first_write, last_writes, mod_writes, new_writes, second_write}
 

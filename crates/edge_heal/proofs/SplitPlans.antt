@@ -5,21 +5,21 @@ use Rattle.std.specs.Option.{option_copied}
 use Rattle.topo_base.specs.Point.{Point}
 use Rattle.topo_base.specs.declared.rows.EdgeRow.{EdgeRow}
 use Rattle.topo_base.specs.declared.rule.Rule.TheVariants.{NoEdge, NotOnEdge}
-use Rattle.topo_model.specs.Drawing.{Drawing, Edge, edge_at}
-use Rattle.topo_model.specs.Line.{is_inside_line}
-use Rattle.topo_model.specs.LinePoints.{has_proper_segments}
-use Rattle.topo_model.specs.Outcome.{Accepted, Outcome}
-use Rattle.topo_model.specs.Plain.{IsPlain}
-use Rattle.topo_model.specs.Rows.{row_at}
-use Rattle.topo_model.specs.Edits.{split_edge, split_mod, split_new}
-use Rattle.topo_model.specs.Tables.{Tables, drawn, drawn_edge, tables_of}
-use Rattle.topo_model.specs.Writes.{edge_row_id}
+use Rattle.drawing.specs.Drawing.{Drawing, Edge, edge_at}
+use Rattle.plane.specs.Line.{is_inside_line}
+use Rattle.plane.specs.LinePoints.{has_proper_segments}
+use Rattle.drawing.specs.Outcome.{Accepted, Outcome}
+use Rattle.drawing.specs.Plain.{IsPlain}
+use Rattle.drawing.specs.Rows.{row_at}
+use Rattle.drawing.specs.Edits.{split_edge, split_mod, split_new}
+use Rattle.drawing.specs.Tables.{Tables, drawn, drawn_edge, tables_of}
+use Rattle.drawing.specs.Writes.{edge_row_id}
 use Rattle.edit_conditions.proofs.RowTests.{edge_found, edge_none}
 use Rattle.read_set.specs.declared.end.PlanEnd.{PlanEnd}
 use Rattle.read_set.specs.declared.end.PlanEnd.TheVariants.{Memory}
 use Rattle.read_set.specs.Edited.{AnswersOutcome}
-use Rattle.topo_model.specs.Apply.{carried_out}
-use Rattle.topo_model.specs.Change.{EdgeIsCut, EdgeIsCutAnew}
+use Rattle.drawing.specs.Apply.{carried_out}
+use Rattle.drawing.specs.Change.{EdgeIsCut, EdgeIsCutAnew}
 use Rattle.edge_heal.specs.Splitting.{IsCut, done_by}
 use Rattle.read_set.specs.declared.edited.Edited.{Edited}
 use Rattle.edge_heal.proofs.SplitDrafts.{cut_of, proper_line}

@@ -12,16 +12,16 @@ use Rattle.topo_base.specs.declared.write.Hand.TheVariants.{Left, Right}
 use Rattle.topo_base.specs.declared.write.RowId.TheVariants.{Old}
 use Rattle.topo_base.specs.declared.write.RowWrite.{RowWrite}
 use Rattle.topo_base.specs.declared.write.RowWrite.TheVariants.{AddNode, SetLine, SetNext}
-use Rattle.topo_model.specs.Drawing.{Drawing, Edge, edge_id_of}
-use Rattle.topo_model.specs.HalfEdge.{both_ways, half_edges}
-use Rattle.topo_model.specs.Line.{line_up_to}
-use Rattle.topo_model.specs.Rows.{without_row}
-use Rattle.topo_model.specs.SplitEdge.{first_part, second_part}
-use Rattle.topo_model.specs.Tables.{Tables, edge_row, tables_of}
-use Rattle.topo_model.specs.Writes.{all_written, edge_row_id, with_next, written}
-use Rattle.topo_model.proofs.ListTests.{contains_here, contains_there}
-use Rattle.topo_model.proofs.Members.{ids_within}
-use Rattle.topo_model.proofs.WritesInOrder.{written-append}
+use Rattle.drawing.specs.Drawing.{Drawing, Edge, edge_id_of}
+use Rattle.drawing.specs.HalfEdge.{both_ways, half_edges}
+use Rattle.plane.specs.Line.{line_up_to}
+use Rattle.drawing.specs.Rows.{without_row}
+use Rattle.drawing.specs.SplitEdge.{first_part, second_part}
+use Rattle.drawing.specs.Tables.{Tables, edge_row, tables_of}
+use Rattle.drawing.specs.Writes.{all_written, edge_row_id, with_next, written}
+use Rattle.plane.proofs.ListTests.{contains_here, contains_there}
+use Rattle.drawing.proofs.Members.{ids_within}
+use Rattle.drawing.proofs.WritesInOrder.{written-append}
 use Rattle.face_rings.proofs.HalvesApart.{one_edge}
 use Rattle.edge_links.proofs.Linking.{Link, all_set, row_with}
 use Rattle.edge_heal.specs.Renamed.{renamed}

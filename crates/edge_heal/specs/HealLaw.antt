@@ -3,14 +3,14 @@ use Rattle.std.specs.Prelude.{◌≡◌, ◌↔◌, ℕ, ◌+◌, IsTrue, List, 
 use Rattle.topo_base.specs.Point.{Point}
 use Rattle.topo_base.specs.RationalPoint.{RationalPoint}
 use Rattle.topo_base.specs.declared.edit.Edit.TheVariants.{ModEdgeSplit, NewEdgesSplit, ModEdgeHeal, NewEdgeHeal}
-use Rattle.topo_model.specs.Drawing.{Drawing, Edge, edge_id_of, edge_at}
-use Rattle.topo_model.specs.Line.{is_inside_line, joined, line_from, line_up_to}
-use Rattle.topo_model.specs.Outcome.{the_edge, the_node}
-use Rattle.topo_model.specs.RationalTests.{IsOnLine}
-use Rattle.topo_model.specs.Relations.{edge_type, follow}
-use Rattle.topo_model.specs.Replay.{after}
-use Rattle.topo_model.specs.Rows.{with_change, without_row}
-use Rattle.topo_model.specs.Step.{step}
+use Rattle.drawing.specs.Drawing.{Drawing, Edge, edge_id_of, edge_at}
+use Rattle.plane.specs.Line.{is_inside_line, joined, line_from, line_up_to}
+use Rattle.drawing.specs.Outcome.{the_edge, the_node}
+use Rattle.plane.specs.RationalTests.{IsOnLine}
+use Rattle.drawing.specs.Relations.{edge_type, follow}
+use Rattle.drawing.specs.Replay.{after}
+use Rattle.drawing.specs.Rows.{with_change, without_row}
+use Rattle.drawing.specs.Step.{step}
 use Rattle.reference_laws.specs.Referenced.{IsReferenced}
 
 -- the line with a vertex at p, a point on it

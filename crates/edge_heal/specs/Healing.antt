@@ -1,16 +1,16 @@
 -- The edges that may be healed, and what is done.
 use Rattle.std.specs.Prelude.{◌≡◌, ℕ, ◌+◌, ◌==◌, Bool, true, false, IsTrue, Contains, [], ◌∷◌, ◌++◌, Some, if◌then◌else◌, reverse}
 use Rattle.topo_base.specs.declared.rows.EdgeRow.{EdgeRow}
-use Rattle.topo_model.specs.Drawing.{Drawing, Edge, edge_at}
-use Rattle.topo_model.specs.HealEdges.{away_from, healed_node, is_closed, joined_edge}
-use Rattle.topo_model.specs.IsoEdits.{is_in_feature}
-use Rattle.topo_model.specs.Line.{first_vertex, last_vertex}
-use Rattle.topo_model.specs.Outcome.{Accepted, the_edge, the_node}
-use Rattle.topo_model.specs.Relations.{edge_type, follow, node_type}
-use Rattle.topo_model.specs.RemoveEdge.{have_same_features}
-use Rattle.topo_model.specs.Rows.{with_change, without_row}
-use Rattle.topo_model.specs.Drawing.{edge_id_of, node_id_of}
-use Rattle.topo_model.specs.Tables.{drawn_edge, tables_of}
+use Rattle.drawing.specs.Drawing.{Drawing, Edge, edge_at}
+use Rattle.drawing.specs.HealEdges.{away_from, healed_node, is_closed, joined_edge}
+use Rattle.drawing.specs.IsoEdits.{is_in_feature}
+use Rattle.plane.specs.Line.{first_vertex, last_vertex}
+use Rattle.drawing.specs.Outcome.{Accepted, the_edge, the_node}
+use Rattle.drawing.specs.Relations.{edge_type, follow, node_type}
+use Rattle.drawing.specs.RemoveEdge.{have_same_features}
+use Rattle.drawing.specs.Rows.{with_change, without_row}
+use Rattle.drawing.specs.Drawing.{edge_id_of, node_id_of}
+use Rattle.drawing.specs.Tables.{drawn_edge, tables_of}
 
 -- the rows of two edges are there, neither is closed, they aren't one, n is the node at which they are healed, and no feature forbids it
 pub record IsJoint (S : Drawing) (r q : EdgeRow) (n : ℕ) : Type 0 where

@@ -5,11 +5,11 @@ use Rattle.topo_base.specs.declared.rows.EdgeRow.{EdgeRow}
 use Rattle.topo_base.specs.declared.write.RowId.TheVariants.{Old}
 use Rattle.topo_base.specs.declared.write.RowWrite.{RowWrite}
 use Rattle.topo_base.specs.declared.write.RowWrite.TheVariants.{AddEdge, DropEdge, DropNode}
-use Rattle.topo_model.specs.Drawing.{Drawing, Edge, edge_id_of, node_id_of}
-use Rattle.topo_model.specs.HealEdges.{joined_edge}
-use Rattle.topo_model.specs.Relations.{edge_type, follow}
-use Rattle.topo_model.specs.Rows.{without_row}
-use Rattle.topo_model.specs.Tables.{Tables, drawn, drawn_edge}
+use Rattle.drawing.specs.Drawing.{Drawing, Edge, edge_id_of, node_id_of}
+use Rattle.drawing.specs.HealEdges.{joined_edge}
+use Rattle.drawing.specs.Relations.{edge_type, follow}
+use Rattle.drawing.specs.Rows.{without_row}
+use Rattle.drawing.specs.Tables.{Tables, drawn, drawn_edge}
 use Rattle.edge_links.specs.Links.{row_dart}
 use Rattle.edge_heal.specs.Joined.{follows_on, row_follower}
 use Rattle.edge_heal.specs.Renamed.{healed_name}

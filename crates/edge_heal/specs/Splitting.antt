@@ -3,15 +3,15 @@ use Rattle.std.specs.Prelude.{◌≡◌, ℕ, ◌+◌, Bool, if◌then◌else◌
 use Rattle.topo_base.specs.Point.{Point}
 use Rattle.topo_base.specs.declared.rows.EdgeRow.{EdgeRow}
 use Rattle.topo_base.specs.declared.rows.FeatureRow.{FeatureRow}
-use Rattle.topo_model.specs.Content.{listing}
-use Rattle.topo_model.specs.Drawing.{Drawing, Edge, edge_at, edge_id_of}
-use Rattle.topo_model.specs.IsoEdits.{with_node}
-use Rattle.topo_model.specs.Line.{is_inside_line}
-use Rattle.topo_model.specs.Outcome.{Accepted, the_edge, the_node}
-use Rattle.topo_model.specs.Relations.{edge_type, follow, lists_element}
-use Rattle.topo_model.specs.Rows.{with_change, without_row}
-use Rattle.topo_model.specs.SplitEdge.{first_part, second_part}
-use Rattle.topo_model.specs.Tables.{Tables, drawn, drawn_edge, face_row, tables_of}
+use Rattle.drawing.specs.Content.{listing}
+use Rattle.drawing.specs.Drawing.{Drawing, Edge, edge_at, edge_id_of}
+use Rattle.drawing.specs.IsoEdits.{with_node}
+use Rattle.plane.specs.Line.{is_inside_line}
+use Rattle.drawing.specs.Outcome.{Accepted, the_edge, the_node}
+use Rattle.drawing.specs.Relations.{edge_type, follow, lists_element}
+use Rattle.drawing.specs.Rows.{with_change, without_row}
+use Rattle.drawing.specs.SplitEdge.{first_part, second_part}
+use Rattle.drawing.specs.Tables.{Tables, drawn, drawn_edge, face_row, tables_of}
 use Rattle.relation_rows.specs.Following.{AreFeaturesOf}
 
 -- the row of an edge is there, and the point lies inside its line

@@ -10,7 +10,7 @@ use Rattle.topo_base.specs.declared.write.RowId.TheVariants.{Old}
 use Rattle.topo_base.specs.declared.write.RowDart.{RowDart}
 use Rattle.topo_base.specs.declared.write.RowWrite.{RowWrite}
 use Rattle.topo_base.specs.declared.write.RowWrite.TheVariants.{AddNode, AddEdge, SetLine, SetNext, DropEdge}
-use Rattle.topo_model.specs.Line.{line_up_to, line_from}
+use Rattle.plane.specs.Line.{line_up_to, line_from}
 use Rattle.edge_links.specs.Links.{row_dart}
 use Rattle.edge_heal.specs.Renamed.{renamed}
 

@@ -1,8 +1,8 @@
 // The draft in which a new edge comes in the place of two that are healed at a node.
 ghost use Rattle.std.specs.Prelude.{◌≡◌, ◌∷◌, ◌++◌, [], IfOk, OnOk, if◌then◌else◌};
-ghost use Rattle.topo_model.specs.Drawing.{Drawing};
-ghost use Rattle.topo_model.specs.HealEdges.{joined_edge};
-ghost use Rattle.topo_model.specs.Tables.{drawn, drawn_edge, tables_of};
+ghost use Rattle.drawing.specs.Drawing.{Drawing};
+ghost use Rattle.drawing.specs.HealEdges.{joined_edge};
+ghost use Rattle.drawing.specs.Tables.{drawn, drawn_edge, tables_of};
 ghost use Rattle.read_set.specs.Drafted.{IsDraftOf};
 ghost use Rattle.relation_rows.specs.KnownRows.{KnowsRows};
 ghost use Rattle.read_set.specs.Edited.{IsEdited};

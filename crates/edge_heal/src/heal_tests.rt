@@ -2,7 +2,7 @@
 //! becomes the joined one.
 
 ghost use Rattle.std.specs.Prelude.{◌≡◌, ◌<◌, ◌∷◌, [], false, true, IfOk, None};
-ghost use Rattle.topo_model.specs.Tables.{drawn_edge};
+ghost use Rattle.drawing.specs.Tables.{drawn_edge};
 ghost use Rattle.edge_heal.specs.Healing.{AreMeeting};
 
 use crate::healing::{heal_writes, healed_into_first};

@@ -1,9 +1,9 @@
 // The draft in which the first of two edges becomes the edge that both are healed into.
 ghost use Rattle.std.specs.Prelude.{◌≡◌, ◌++◌, ◌∷◌, [], not, ◌==◌, IfOk, OnOk};
 ghost use Rattle.topo_base.specs.declared.write.RowWrite.TheVariants.{DropEdge, DropNode, SetLine, SetNext};
-ghost use Rattle.topo_model.specs.Drawing.{Drawing};
-ghost use Rattle.topo_model.specs.HealEdges.{joined_edge};
-ghost use Rattle.topo_model.specs.Tables.{drawn, drawn_edge, tables_of};
+ghost use Rattle.drawing.specs.Drawing.{Drawing};
+ghost use Rattle.drawing.specs.HealEdges.{joined_edge};
+ghost use Rattle.drawing.specs.Tables.{drawn, drawn_edge, tables_of};
 ghost use Rattle.read_set.specs.Drafted.{IsDraftOf};
 ghost use Rattle.edge_links.specs.Links.{hand_back, row_dart};
 ghost use Rattle.read_set.specs.Edited.{IsEdited};

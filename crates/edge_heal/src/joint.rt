@@ -1,8 +1,8 @@
 // Two edges that are healed into one: the names of their darts, the line and the ends of the joined edge.
 ghost use Rattle.std.specs.Prelude.{◌≡◌, ℕ, ◌==◌, IfOk, reverse};
 ghost use Rattle.topo_base.specs.declared.ids.Dart.{Dart as DartValue};
-ghost use Rattle.topo_model.specs.HealEdges.{away_from, joined_edge};
-ghost use Rattle.topo_model.specs.Tables.{drawn_edge};
+ghost use Rattle.drawing.specs.HealEdges.{away_from, joined_edge};
+ghost use Rattle.drawing.specs.Tables.{drawn_edge};
 ghost use Rattle.edge_heal.specs.Healing.{AreMeeting};
 ghost use Rattle.edge_heal.specs.Joined.{IsHealedAt, follows_on, row_follower};
 ghost use Rattle.edge_heal.specs.Renamed.{healed_name};

@@ -2,7 +2,7 @@
 ghost use Rattle.std.specs.Prelude.{◌≡◌, ◌++◌, OnOk};
 ghost use Rattle.topo_base.specs.Darts.{same_dart};
 ghost use Rattle.topo_base.specs.declared.ids.Dart.{Dart as DartValue};
-ghost use Rattle.topo_model.specs.Places.{rows_of};
+ghost use Rattle.drawing.specs.Places.{rows_of};
 ghost use Rattle.edge_links.specs.Links.{row_dart};
 ghost use Rattle.edge_heal.specs.Renamed.{renamed};
 ghost use Rattle.edge_heal.specs.Writes.{all_relinks, relink, relinks};

@@ -1,9 +1,9 @@
 // Plans of split and healed edges.
 ghost use Rattle.std.specs.Prelude.{◌≡◌, false, true, IfOk, IsTrue, Some};
-ghost use Rattle.topo_model.specs.Drawing.{edge_at};
-ghost use Rattle.topo_model.specs.Edits.{split_edge};
-ghost use Rattle.topo_model.specs.Step.{step};
-ghost use Rattle.topo_model.specs.Tables.{drawn, drawn_edge, tables_of};
+ghost use Rattle.drawing.specs.Drawing.{edge_at};
+ghost use Rattle.drawing.specs.Edits.{split_edge};
+ghost use Rattle.drawing.specs.Step.{step};
+ghost use Rattle.drawing.specs.Tables.{drawn, drawn_edge, tables_of};
 ghost use Rattle.read_set.specs.Answered.{IsAnswered};
 ghost use Rattle.read_set.specs.Planned.{IsEditor};
 ghost use Rattle.read_set.specs.Edited.{AnswersOutcome, IsEdited};

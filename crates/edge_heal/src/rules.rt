@@ -1,12 +1,12 @@
 // The rules by which two edges are healed at a node.
 ghost use Rattle.std.specs.Prelude.{◌≡◌, ◌==◌, ◌&&◌, ◌||◌, IfOk, Some};
-ghost use Rattle.topo_model.specs.Drawing.{edge_at, has_only, is_end_of};
-ghost use Rattle.topo_model.specs.HealEdges.{common_nodes, healed_node, is_closed, is_nothing};
-ghost use Rattle.topo_model.specs.Edits.{heal_at, heal_edges};
-ghost use Rattle.topo_model.specs.IsoEdits.{is_in_feature as is_element_in_feature};
-ghost use Rattle.topo_model.specs.Relations.{edge_type, node_type};
-ghost use Rattle.topo_model.specs.RemoveEdge.{have_same_features};
-ghost use Rattle.topo_model.specs.Tables.{drawn, drawn_edge, tables_of};
+ghost use Rattle.drawing.specs.Drawing.{edge_at, has_only, is_end_of};
+ghost use Rattle.drawing.specs.HealEdges.{common_nodes, healed_node, is_closed, is_nothing};
+ghost use Rattle.drawing.specs.Edits.{heal_at, heal_edges};
+ghost use Rattle.drawing.specs.IsoEdits.{is_in_feature as is_element_in_feature};
+ghost use Rattle.drawing.specs.Relations.{edge_type, node_type};
+ghost use Rattle.drawing.specs.RemoveEdge.{have_same_features};
+ghost use Rattle.drawing.specs.Tables.{drawn, drawn_edge, tables_of};
 ghost use Rattle.read_set.specs.Edited.{AnswersOutcome, IsEdited};
 ghost use Rattle.edge_heal.specs.Healing.{AreJoined, IsJoint, IsRowOf, heal_done_by};
 ghost use Rattle.edge_heal.specs.Ready.{IsReady};

@@ -1,7 +1,7 @@
 // Drafts in which an edge is split.
 ghost use Rattle.std.specs.Prelude.{◌≡◌, ◌+◌, ◌<◌, ◌^◌, ◌∷◌, [], IfOk, OnOk};
-ghost use Rattle.topo_model.specs.Drawing.{Drawing};
-ghost use Rattle.topo_model.specs.Tables.{Tables as TablesValue, drawn, drawn_edge, tables_of};
+ghost use Rattle.drawing.specs.Drawing.{Drawing};
+ghost use Rattle.drawing.specs.Tables.{Tables as TablesValue, drawn, drawn_edge, tables_of};
 ghost use Rattle.read_set.specs.Drafted.{IsDraftOf};
 ghost use Rattle.read_set.specs.Edited.{IsEdited};
 ghost use Rattle.edge_heal.specs.Ready.{IsReady};

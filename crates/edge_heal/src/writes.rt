@@ -3,7 +3,7 @@ ghost use Rattle.std.specs.Prelude.{◌≡◌, ◌∷◌, ◌++◌, [], false, t
 ghost use Rattle.topo_base.specs.Point.{Point};
 ghost use Rattle.edge_links.specs.Links.{row_dart};
 ghost use Rattle.edge_heal.specs.Renamed.{renamed};
-ghost use Rattle.topo_model.specs.Line.{is_inside_line, is_simple, line_from, line_up_to};
+ghost use Rattle.plane.specs.Line.{is_inside_line, is_simple, line_from, line_up_to};
 ghost use Rattle.edge_heal.specs.Writes.{dart_named, first_write, last_writes, mod_writes, new_writes, second_write};
 
 use crate::links::{Parts, relink_rows, renamed, row_dart};

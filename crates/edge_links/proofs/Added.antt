@@ -3,12 +3,12 @@ use Rattle.std.proofs.Common.{◌≡◌, refl, sym, ◌∙◌, ap, subst, Bool, 
 use Rattle.std.specs.Prelude.{flat_map, not}
 use Rattle.std.specs.List.{Contains}
 use Rattle.std.proofs.lemmas.Bool.{and_parts}
-use Rattle.topo_model.proofs.ListTests.{contains_here, contains_there}
-use Rattle.topo_model.proofs.Members.{contains-filtered}
-use Rattle.topo_model.specs.Direction.{Direction, is_nearer}
-use Rattle.topo_model.specs.Drawing.{Edge}
-use Rattle.topo_model.specs.HalfEdge.{HalfEdge, both_ways, twin, leaves, same_half_edge}
-use Rattle.topo_model.specs.Star.{leaving, nearer_of, first_clockwise, or_twin, next_of}
+use Rattle.plane.proofs.ListTests.{contains_here, contains_there}
+use Rattle.drawing.proofs.Members.{contains-filtered}
+use Rattle.plane.specs.Direction.{Direction, is_nearer}
+use Rattle.drawing.specs.Drawing.{Edge}
+use Rattle.drawing.specs.HalfEdge.{HalfEdge, both_ways, twin, leaves, same_half_edge}
+use Rattle.drawing.specs.Star.{leaving, nearer_of, first_clockwise, or_twin, next_of}
 use Rattle.edge_links.proofs.Coming.{filter_append}
 use Rattle.edge_links.proofs.Following.{may_follow}
 

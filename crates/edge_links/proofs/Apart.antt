@@ -9,25 +9,26 @@ use Rattle.topo_base.specs.Darts.{same_way}
 use Rattle.topo_base.specs.Point.{Point}
 use Rattle.topo_base.specs.RationalPoint.{RationalPoint, IsAt}
 use Rattle.topo_base.specs.declared.rows.NodeRow.{NodeRow}
-use Rattle.topo_model.specs.Direction.{first_direction, direction_to, OneDirection, IsNotZero}
-use Rattle.topo_model.specs.Drawing.{Edge, is_end_of}
-use Rattle.topo_model.specs.HalfEdge.{HalfEdge, forward_of, backward_of, both_ways, leaves, same_half_edge}
-use Rattle.topo_model.specs.Line.{segments_of, first_vertex, last_vertex, is_proper}
-use Rattle.topo_model.specs.Plain.{IsSimpleLine}
-use Rattle.topo_model.specs.RationalTests.{IsOn, IsOnLine, IsOnEdge}
-use Rattle.topo_model.specs.Relation.{SameCoordinates}
-use Rattle.topo_model.specs.Segment.{Segment}
-use Rattle.topo_model.specs.Star.{leaving}
-use Rattle.topo_model.proofs.Collinear.{on_round}
-use Rattle.topo_model.proofs.Directions.{one_turned}
-use Rattle.topo_model.proofs.LineCuts.{last_ends}
-use Rattle.topo_model.proofs.LineTurns.{first-reverse, last-reverse, reverse_on, reverse_proper, reverse_simple}
-use Rattle.topo_model.proofs.ListTests.{contains_here, contains_there, contains_cases}
-use Rattle.topo_model.proofs.Members.{Pairwise, pairwise-same, pairwise-filter, contains-filtered}
-use Rattle.topo_model.proofs.Middle.{another}
-use Rattle.topo_model.proofs.PlainParts.{ArePlain, HasPoint}
-use Rattle.topo_model.proofs.Ring.{signed}
-use Rattle.topo_model.proofs.SegmentParts.{segment, end_on}
+use Rattle.plane.specs.Direction.{first_direction, direction_to, OneDirection, IsNotZero}
+use Rattle.drawing.specs.Drawing.{Edge, is_end_of}
+use Rattle.drawing.specs.HalfEdge.{HalfEdge, forward_of, backward_of, both_ways, leaves, same_half_edge}
+use Rattle.plane.specs.Line.{segments_of, first_vertex, last_vertex, is_proper}
+use Rattle.plane.specs.SimpleLine.{IsSimpleLine}
+use Rattle.plane.specs.RationalTests.{IsOn, IsOnLine}
+use Rattle.drawing.specs.DrawnPoints.{IsOnEdge}
+use Rattle.plane.specs.Relation.{SameCoordinates}
+use Rattle.plane.specs.Segment.{Segment}
+use Rattle.drawing.specs.Star.{leaving}
+use Rattle.plane.proofs.Collinear.{on_round}
+use Rattle.plane.proofs.Directions.{one_turned}
+use Rattle.plane.proofs.LineCuts.{last_ends}
+use Rattle.plane.proofs.LineTurns.{first-reverse, last-reverse, reverse_on, reverse_proper, reverse_simple}
+use Rattle.plane.proofs.ListTests.{contains_here, contains_there, contains_cases}
+use Rattle.drawing.proofs.Members.{Pairwise, pairwise-same, pairwise-filter, contains-filtered}
+use Rattle.plane.proofs.Middle.{another}
+use Rattle.drawing.proofs.PlainParts.{ArePlain, HasPoint}
+use Rattle.plane.proofs.Ring.{signed}
+use Rattle.plane.proofs.SegmentParts.{segment, end_on}
 use Rattle.edge_links.proofs.Half.{IsHalfOf, IdsDiffer, in_half_edges, one_edge, half_id}
 use Rattle.edge_links.proofs.Meeting.{have_more}
 use Rattle.edge_links.proofs.Following.{IsStar, of_star, same_self}

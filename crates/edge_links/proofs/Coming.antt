@@ -1,11 +1,11 @@
 -- The star of a node with the half-edges of an edge that comes last.
 use Rattle.std.proofs.Common.{◌≡◌, ℕ, refl, sym, ◌∙◌, ap, subst, ◌⊎◌, inl, inr, ⊎_elim, Bool, true, false, cond, List, [], ◌∷◌, ◌++◌, filter}
 use Rattle.std.specs.List.{Contains}
-use Rattle.topo_model.proofs.ListTests.{contains_here, contains_there, contains_cases, contains_none}
-use Rattle.topo_model.proofs.Members.{Pairwise}
-use Rattle.topo_model.specs.Drawing.{Edge}
-use Rattle.topo_model.specs.HalfEdge.{HalfEdge, forward_of, backward_of, both_ways, leaves, dart_of}
-use Rattle.topo_model.specs.Star.{leaving, insert_clockwise, clockwise, star}
+use Rattle.plane.proofs.ListTests.{contains_here, contains_there, contains_cases, contains_none}
+use Rattle.drawing.proofs.Members.{Pairwise}
+use Rattle.drawing.specs.Drawing.{Edge}
+use Rattle.drawing.specs.HalfEdge.{HalfEdge, forward_of, backward_of, both_ways, leaves, dart_of}
+use Rattle.drawing.specs.Star.{leaving, insert_clockwise, clockwise, star}
 use Rattle.edge_links.specs.Rays.{rays_of, with_ray, with_half_edge, with_both}
 use Rattle.edge_links.proofs.RayLemmas.{ray_inserted}
 use Rattle.edge_links.proofs.Sorting.{AreOrdered, swap, clockwise_push}

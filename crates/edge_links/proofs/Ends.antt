@@ -6,13 +6,13 @@ use Rattle.std.proofs.lemmas.Bool.{and_parts}
 use Rattle.std.proofs.lemmas.Bool.Decides.{Decides-not}
 use Rattle.std.proofs.lemmas.List.{get_or-reverse, get_or_default, length-reverse}
 use Rattle.topo_base.specs.Point.{Point, same_point}
-use Rattle.topo_model.specs.Direction.{first_direction, direction_to, IsNotZero}
-use Rattle.topo_model.specs.Relation.{SameCoordinates}
-use Rattle.topo_model.proofs.Ring.{signed}
-use Rattle.topo_model.specs.Line.{segments_of, is_proper}
-use Rattle.topo_model.proofs.PointTests.{Decides-same_point}
-use Rattle.topo_model.proofs.LineTurns.{reverse_proper}
-use Rattle.topo_model.proofs.SegmentParts.{segment}
+use Rattle.plane.specs.Direction.{first_direction, direction_to, IsNotZero}
+use Rattle.plane.specs.Relation.{SameCoordinates}
+use Rattle.plane.proofs.Ring.{signed}
+use Rattle.plane.specs.Line.{segments_of, is_proper}
+use Rattle.plane.proofs.PointTests.{Decides-same_point}
+use Rattle.plane.proofs.LineTurns.{reverse_proper}
+use Rattle.plane.proofs.SegmentParts.{segment}
 
 -- the first two vertices of a line
 first_two : (l : List Point) (d : Point) → 2 ≤ length l → first_direction l ≡ direction_to (get_or l 0 d) (get_or l 1 d)

@@ -3,14 +3,14 @@ use Rattle.std.proofs.Common.{◌≡◌, ℕ, refl, sym, ◌∙◌, ap, subst, �
 use Rattle.std.specs.Prelude.{◌==◌, flat_map}
 use Rattle.std.specs.List.{Contains}
 use Rattle.std.proofs.lemmas.Bool.{and_parts, both_ways as both_true}
-use Rattle.topo_model.proofs.Directions.{nearer_onward}
-use Rattle.topo_model.proofs.ListTests.{contains_here, contains_there, contains_cases, contains_none}
-use Rattle.topo_model.proofs.Members.{Pairwise, contains-filtered, pairwise-filter}
-use Rattle.topo_model.specs.Direction.{straight_up}
-use Rattle.topo_model.specs.Drawing.{Edge, edge_id_of}
-use Rattle.topo_model.specs.HalfEdge.{HalfEdge, forward_of, backward_of, both_ways, leaves, dart_of}
-use Rattle.topo_model.specs.Rows.{without_row}
-use Rattle.topo_model.specs.Star.{leaving, insert_clockwise, clockwise, star}
+use Rattle.plane.proofs.Directions.{nearer_onward}
+use Rattle.plane.proofs.ListTests.{contains_here, contains_there, contains_cases, contains_none}
+use Rattle.drawing.proofs.Members.{Pairwise, contains-filtered, pairwise-filter}
+use Rattle.plane.specs.Direction.{straight_up}
+use Rattle.drawing.specs.Drawing.{Edge, edge_id_of}
+use Rattle.drawing.specs.HalfEdge.{HalfEdge, forward_of, backward_of, both_ways, leaves, dart_of}
+use Rattle.drawing.specs.Rows.{without_row}
+use Rattle.drawing.specs.Star.{leaving, insert_clockwise, clockwise, star}
 use Rattle.edge_links.specs.Unlinks.{is_other, others}
 use Rattle.edge_links.proofs.Following.{IsStar}
 use Rattle.edge_links.proofs.Sorting.{AreOrdered, are_sorted, first_of_two, clockwise_sorted}

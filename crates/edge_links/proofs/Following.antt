@@ -4,15 +4,15 @@ use Rattle.std.specs.Prelude.{◌&&◌, flat_map}
 use Rattle.std.specs.List.{Contains}
 use Rattle.std.proofs.lemmas.Bool.{both_ways as both_true, and_parts, and_from, false_from_ne_true, cases_eq, cases_order}
 use Rattle.topo_base.specs.Darts.{same_way}
-use Rattle.topo_model.proofs.Directions.{nearer_self, nearer_onward}
-use Rattle.topo_model.proofs.Wedges.{in_pairs}
-use Rattle.topo_model.proofs.ListTests.{contains_here, contains_there, contains_cases, contains_none}
-use Rattle.topo_model.proofs.Members.{contains-filter, contains-filtered}
-use Rattle.topo_model.specs.Direction.{Direction, is_nearer, straight_up, IsNotZero}
-use Rattle.topo_model.specs.Drawing.{Edge}
-use Rattle.topo_model.specs.HalfEdge.{HalfEdge, both_ways, twin, leaves, same_half_edge}
-use Rattle.topo_model.specs.Star.{leaving, nearer_of, first_clockwise, or_twin, next_of, star}
-use Rattle.topo_model.specs.Wedge.{direction_at, no_direction}
+use Rattle.plane.proofs.Directions.{nearer_self, nearer_onward}
+use Rattle.plane.proofs.Wedges.{in_pairs}
+use Rattle.plane.proofs.ListTests.{contains_here, contains_there, contains_cases, contains_none}
+use Rattle.drawing.proofs.Members.{contains-filter, contains-filtered}
+use Rattle.plane.specs.Direction.{Direction, is_nearer, straight_up, IsNotZero}
+use Rattle.drawing.specs.Drawing.{Edge}
+use Rattle.drawing.specs.HalfEdge.{HalfEdge, both_ways, twin, leaves, same_half_edge}
+use Rattle.drawing.specs.Star.{leaving, nearer_of, first_clockwise, or_twin, next_of, star}
+use Rattle.plane.specs.Wedge.{direction_at, no_direction}
 use Rattle.edge_links.specs.Links.{index_after}
 use Rattle.edge_links.proofs.Half.{IdsDiffer, half_edge_same}
 use Rattle.edge_links.proofs.Round.{AreSome, nearest_next, next_place}

@@ -5,8 +5,8 @@ use Rattle.std.specs.List.{Contains}
 use Rattle.std.proofs.lemmas.Bool.{and_parts, and_from, both_ways, cases_eq, false_from_ne_true}
 use Rattle.topo_base.specs.Darts.{same_dart, same_way}
 use Rattle.topo_base.specs.declared.ids.Dart.{Dart}
-use Rattle.topo_model.proofs.ListTests.{contains_here, contains_there, contains_cases, contains_none}
-use Rattle.topo_model.proofs.Members.{contains-filter}
+use Rattle.plane.proofs.ListTests.{contains_here, contains_there, contains_cases, contains_none}
+use Rattle.drawing.proofs.Members.{contains-filter}
 use Rattle.edge_links.specs.Links.{place_of, dart_after}
 use Rattle.edge_links.specs.Unlinks.{is_other, others, stands_before, before_gone}
 use Rattle.edge_links.proofs.Following.{at_has}

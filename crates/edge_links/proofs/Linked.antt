@@ -6,9 +6,9 @@ use Rattle.std.proofs.lemmas.Bool.{and_parts, and_from, cases_eq, false_from_ne_
 use Rattle.std.proofs.lemmas.List.Sums.{position_or_len_is}
 use Rattle.topo_base.specs.Darts.{same_dart, same_way}
 use Rattle.topo_base.specs.declared.ids.Dart.{Dart}
-use Rattle.topo_model.specs.Drawing.{Edge}
-use Rattle.topo_model.specs.HalfEdge.{HalfEdge, forward_of, backward_of, both_ways, twin, dart_of}
-use Rattle.topo_model.specs.Star.{next_of, star}
+use Rattle.drawing.specs.Drawing.{Edge}
+use Rattle.drawing.specs.HalfEdge.{HalfEdge, forward_of, backward_of, both_ways, twin, dart_of}
+use Rattle.drawing.specs.Star.{next_of, star}
 use Rattle.edge_links.specs.Links.{place_of, index_after, index_before, dart_at, dart_after, dart_before}
 use Rattle.edge_links.proofs.Following.{IsStar, in_star, of_star, next_is, at_has, at_map, place_in, places_differ, length_mapped, same_self}
 use Rattle.edge_links.proofs.Half.{IsHalfOf, IdsDiffer, in_half_edges, half_edges_have, half_edge_same, one_edge, half_id, half_twin, halves_same, way_same, twin_twin}

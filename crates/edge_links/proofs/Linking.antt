@@ -7,10 +7,10 @@ use Rattle.topo_base.specs.declared.ids.Dart.{Dart}
 use Rattle.topo_base.specs.declared.rows.Counters.{Counters}
 use Rattle.topo_base.specs.declared.rows.EdgeRow.{EdgeRow}
 use Rattle.topo_base.specs.declared.write.RowWrite.{RowWrite}
-use Rattle.topo_model.proofs.ListTests.{contains_here, contains_there}
-use Rattle.topo_model.specs.Drawing.{Edge}
-use Rattle.topo_model.specs.Tables.{Tables}
-use Rattle.topo_model.specs.Writes.{written, all_written, with_next, edge_row_id}
+use Rattle.plane.proofs.ListTests.{contains_here, contains_there}
+use Rattle.drawing.specs.Drawing.{Edge}
+use Rattle.drawing.specs.Tables.{Tables}
+use Rattle.drawing.specs.Writes.{written, all_written, with_next, edge_row_id}
 use Rattle.edge_links.specs.Links.{hand_back, link_back}
 
 -- ---- lists mapped

@@ -4,15 +4,15 @@ use Rattle.std.specs.Prelude.{neg_ℤ}
 use Rattle.std.proofs.Math.IntN.{zero-*ℤ}
 use Rattle.topo_base.specs.Point.{Point}
 use Rattle.topo_base.specs.RationalPoint.{rational, IsAt, SamePoint, IsBetween}
-use Rattle.topo_model.specs.Direction.{direction_to, OneDirection, IsNotZero, cross}
-use Rattle.topo_model.specs.Relation.{HaveMore}
-use Rattle.topo_model.specs.RationalTests.{IsOn}
-use Rattle.topo_model.proofs.Directions.{multiple_of_one, one_turned}
-use Rattle.topo_model.proofs.Middle.{cancel_le}
-use Rattle.topo_model.proofs.Points.{point_on}
-use Rattle.topo_model.proofs.Ring.{signed, mul_comm, neg_mul}
-use Rattle.topo_model.proofs.SegmentParts.{segment, start_on, end_on}
-use Rattle.topo_model.proofs.Signs.{mul_le, mul_not_negative, order, times_one}
+use Rattle.plane.specs.Direction.{direction_to, OneDirection, IsNotZero, cross}
+use Rattle.plane.specs.Relation.{HaveMore}
+use Rattle.plane.specs.RationalTests.{IsOn}
+use Rattle.plane.proofs.Directions.{multiple_of_one, one_turned}
+use Rattle.plane.proofs.Middle.{cancel_le}
+use Rattle.plane.proofs.Points.{point_on}
+use Rattle.plane.proofs.Ring.{signed, mul_comm, neg_mul}
+use Rattle.plane.proofs.SegmentParts.{segment, start_on, end_on}
+use Rattle.plane.proofs.Signs.{mul_le, mul_not_negative, order, times_one}
 
 -- x k is y m, where k is at most m: y is no longer than x
 shorter : (x y k m : ℤ) → pos 0 ≤ℤ x → pos 0 <ℤ k → k ≤ℤ m → k *ℤ x ≡ m *ℤ y → (pos 0 ≤ℤ y) × (y ≤ℤ x)

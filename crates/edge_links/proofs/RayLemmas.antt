@@ -6,15 +6,15 @@ use Rattle.std.proofs.Math.Seq.{drop-cons, drop-length}
 use Rattle.std.proofs.lemmas.Bool.{and_parts, and_from}
 use Rattle.std.proofs.lemmas.List.Folds.{list_all-map}
 use Rattle.topo_base.specs.declared.rows.EdgeRow.{EdgeRow}
-use Rattle.topo_model.specs.Direction.{is_nearer, straight_up}
-use Rattle.topo_model.specs.Drawing.{Drawing, Edge}
-use Rattle.topo_model.specs.HalfEdge.{HalfEdge, dart_of, forward_of, backward_of, both_ways, leaves}
-use Rattle.topo_model.specs.Line.{first_vertex, last_vertex}
-use Rattle.topo_model.specs.LinePoints.{has_proper_segments}
-use Rattle.topo_model.specs.Places.{rows_of}
-use Rattle.topo_model.specs.Plain.{IsPlain, is_between_nodes, has_point}
-use Rattle.topo_model.specs.Star.{leaving, insert_clockwise, clockwise, star}
-use Rattle.topo_model.specs.Tables.{Tables, drawn, drawn_edge}
+use Rattle.plane.specs.Direction.{is_nearer, straight_up}
+use Rattle.drawing.specs.Drawing.{Drawing, Edge}
+use Rattle.drawing.specs.HalfEdge.{HalfEdge, dart_of, forward_of, backward_of, both_ways, leaves}
+use Rattle.plane.specs.Line.{first_vertex, last_vertex}
+use Rattle.plane.specs.LinePoints.{has_proper_segments}
+use Rattle.drawing.specs.Places.{rows_of}
+use Rattle.drawing.specs.Plain.{IsPlain, is_between_nodes, has_point}
+use Rattle.drawing.specs.Star.{leaving, insert_clockwise, clockwise, star}
+use Rattle.drawing.specs.Tables.{Tables, drawn, drawn_edge}
 use Rattle.edge_links.specs.Rays.{Rays, rays_of, no_rays, with_ray, with_half_edge, with_both, with_slot, place_for, has_proper_line, in_each_slot}
 
 -- ---- an element put before those that pass

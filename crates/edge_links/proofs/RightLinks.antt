@@ -5,21 +5,21 @@ use Rattle.std.proofs.lemmas.List.Elements.{All-contains, Contains-push_cases}
 use Rattle.topo_base.specs.Point.{Point}
 use Rattle.topo_base.specs.declared.rows.NodeRow.{NodeRow}
 use Rattle.topo_base.specs.declared.write.RowDart.{RowDart}
-use Rattle.topo_model.proofs.Members.{Pairwise, contains-map, ids_differ}
-use Rattle.topo_model.proofs.Ordering.{InOrder, InOrder-change, InOrder-push}
-use Rattle.topo_model.proofs.PlainParts.{parts_of}
-use Rattle.topo_model.specs.AddEdge.{coming}
-use Rattle.topo_model.specs.Direction.{IsNotZero}
-use Rattle.topo_model.specs.Drawing.{Drawing, node_id_of, edge_id_of}
-use Rattle.topo_model.specs.HalfEdge.{HalfEdge, both_ways, forward_of, backward_of, half_edges, leaves, twin, dart_of}
-use Rattle.topo_model.specs.IsoEdits.{with_edge, put_in_face}
-use Rattle.topo_model.specs.Plain.{IsPlain}
-use Rattle.topo_model.specs.PlainLaw.{IsPlainInOrder}
-use Rattle.topo_model.specs.Star.{leaving, next_of, star}
-use Rattle.topo_model.specs.Tables.{tables_of}
-use Rattle.topo_model.specs.Wedge.{in_clockwise_order}
-use Rattle.topo_model.specs.Writable.{CanWriteAll, has_edge_row}
-use Rattle.topo_model.specs.Writes.{all_written, dart_named}
+use Rattle.drawing.proofs.Members.{Pairwise, contains-map, ids_differ}
+use Rattle.drawing.proofs.Ordering.{InOrder, InOrder-change, InOrder-push}
+use Rattle.drawing.proofs.PlainParts.{parts_of}
+use Rattle.drawing.specs.AddEdge.{coming}
+use Rattle.plane.specs.Direction.{IsNotZero}
+use Rattle.drawing.specs.Drawing.{Drawing, node_id_of, edge_id_of}
+use Rattle.drawing.specs.HalfEdge.{HalfEdge, both_ways, forward_of, backward_of, half_edges, leaves, twin, dart_of}
+use Rattle.drawing.specs.IsoEdits.{with_edge, put_in_face}
+use Rattle.drawing.specs.Plain.{IsPlain}
+use Rattle.drawing.specs.PlainInOrder.{IsPlainInOrder}
+use Rattle.drawing.specs.Star.{leaving, next_of, star}
+use Rattle.drawing.specs.Tables.{tables_of}
+use Rattle.plane.specs.Wedge.{in_clockwise_order}
+use Rattle.drawing.specs.Writable.{CanWriteAll, has_edge_row}
+use Rattle.drawing.specs.Writes.{all_written, dart_named}
 use Rattle.edge_links.specs.Links.{dart_after}
 use Rattle.edge_links.specs.LinksLaw.{HasDirections, IsComing, LinksAreRight, rays_at, with_row, link_writes_of}
 use Rattle.edge_links.specs.Rays.{Rays, rays_of, with_both, edge_between}

@@ -7,14 +7,14 @@ use Rattle.topo_base.specs.declared.rows.EdgeRow.{EdgeRow}
 use Rattle.topo_base.specs.declared.write.RowId.TheVariants.{Old}
 use Rattle.topo_base.specs.declared.write.RowWrite.{RowWrite}
 use Rattle.topo_base.specs.declared.write.RowWrite.TheVariants.{DropEdge}
-use Rattle.topo_model.proofs.Members.{contains-map}
-use Rattle.topo_model.specs.Drawing.{Drawing, Edge, edge_id_of}
-use Rattle.topo_model.specs.HalfEdge.{half_edges}
-use Rattle.topo_model.specs.PlainLaw.{IsPlainInOrder}
-use Rattle.topo_model.specs.Rows.{has_row, without_row}
-use Rattle.topo_model.specs.Tables.{Tables, tables_of, edge_row}
-use Rattle.topo_model.specs.Writable.{CanWriteAll, has_edge_row}
-use Rattle.topo_model.specs.Writes.{written, all_written, edge_row_id}
+use Rattle.drawing.proofs.Members.{contains-map}
+use Rattle.drawing.specs.Drawing.{Drawing, Edge, edge_id_of}
+use Rattle.drawing.specs.HalfEdge.{half_edges}
+use Rattle.drawing.specs.PlainInOrder.{IsPlainInOrder}
+use Rattle.drawing.specs.Rows.{has_row, without_row}
+use Rattle.drawing.specs.Tables.{Tables, tables_of, edge_row}
+use Rattle.drawing.specs.Writable.{CanWriteAll, has_edge_row}
+use Rattle.drawing.specs.Writes.{written, all_written, edge_row_id}
 use Rattle.edge_links.specs.LinksLaw.{HasDirections, rays_at}
 use Rattle.edge_links.specs.Unlinks.{others, before_gone, unlinks_round}
 use Rattle.edge_links.specs.UnlinksLaw.{UnlinksAreRight, edge_gone, unlinks_of, drop_writes_of, dropped_rows}

@@ -1,10 +1,10 @@
 -- Three directions in clockwise order, seen from each of them, and what comes next in a star.
 use Rattle.std.proofs.Common.{◌≡◌, ◌≢◌, ℕ, suc, ◌+◌, ◌<◌, ◌≤◌, refl, sym, ◌∙◌, ap, subst, arith, ◌⊎◌, inl, inr, ⊎_elim, Bool, true, false, cond, eqb, eq-eqb, List, [], ◌∷◌, length, IsTrue}
 use Rattle.std.proofs.lemmas.Bool.{both_ways, and_parts, and_from, eqb-true, false_from_ne_true, cases_lt}
-use Rattle.topo_model.proofs.Directions.{nearer_in, nearer_self, nearer_onward, nearer_total, nearer_cyclic, same_out, same_in, one_turned, quarter_of_one}
-use Rattle.topo_model.proofs.Wedges.{apart_nearer, before_before, in_pairs}
-use Rattle.topo_model.specs.Direction.{Direction, cross, quarter, is_nearer, same_direction, straight_up, nearer_by, OneDirection, IsNotZero}
-use Rattle.topo_model.specs.Wedge.{are_nearer_first, in_clockwise_order, direction_at}
+use Rattle.plane.proofs.Directions.{nearer_in, nearer_self, nearer_onward, nearer_total, nearer_cyclic, same_out, same_in, one_turned, quarter_of_one}
+use Rattle.plane.proofs.Wedges.{apart_nearer, before_before, in_pairs}
+use Rattle.plane.specs.Direction.{Direction, cross, quarter, is_nearer, same_direction, straight_up, nearer_by, OneDirection, IsNotZero}
+use Rattle.plane.specs.Wedge.{are_nearer_first, in_clockwise_order, direction_at}
 use Rattle.edge_links.specs.Links.{index_after}
 
 -- u, v and w in clockwise order, seen from each

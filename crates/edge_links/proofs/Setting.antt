@@ -5,11 +5,11 @@ use Rattle.std.specs.List.{Contains}
 use Rattle.std.proofs.lemmas.Bool.{or_left, or_right}
 use Rattle.topo_base.specs.declared.ids.Dart.{Dart}
 use Rattle.topo_base.specs.declared.rows.EdgeRow.{EdgeRow}
-use Rattle.topo_model.proofs.ListTests.{contains_here, contains_there, contains_cases, contains_none}
-use Rattle.topo_model.specs.Drawing.{Edge}
-use Rattle.topo_model.specs.HalfEdge.{HalfEdge, forward_of, backward_of, both_ways, leaves, dart_of}
-use Rattle.topo_model.specs.Star.{next_of, star}
-use Rattle.topo_model.specs.Tables.{edge_row}
+use Rattle.plane.proofs.ListTests.{contains_here, contains_there, contains_cases, contains_none}
+use Rattle.drawing.specs.Drawing.{Edge}
+use Rattle.drawing.specs.HalfEdge.{HalfEdge, forward_of, backward_of, both_ways, leaves, dart_of}
+use Rattle.drawing.specs.Star.{next_of, star}
+use Rattle.drawing.specs.Tables.{edge_row}
 use Rattle.edge_links.proofs.Added.{half_edges_push, next_cases}
 use Rattle.edge_links.proofs.Following.{IsStar, in_star}
 use Rattle.edge_links.proofs.Half.{half_edges_have, twin_backward}

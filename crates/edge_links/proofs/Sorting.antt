@@ -2,13 +2,13 @@
 use Rattle.std.proofs.Common.{◌≡◌, refl, sym, ◌∙◌, ap, subst, ◌⊎◌, inl, inr, ⊎_elim, Bool, true, false, cond, List, [], ◌∷◌, ◌++◌, map, IsTrue}
 use Rattle.std.specs.List.{Contains}
 use Rattle.std.proofs.lemmas.Bool.{both_ways, and_parts, and_from, false_from_ne_true}
-use Rattle.topo_model.proofs.Directions.{nearer_self, nearer_onward, nearer_total}
-use Rattle.topo_model.proofs.ListTests.{contains_here, contains_there, contains_cases, contains_none}
-use Rattle.topo_model.proofs.Members.{Pairwise}
-use Rattle.topo_model.specs.Direction.{is_nearer, straight_up, OneDirection, IsNotZero}
-use Rattle.topo_model.specs.HalfEdge.{HalfEdge}
-use Rattle.topo_model.specs.Star.{leaving, insert_clockwise, clockwise}
-use Rattle.topo_model.specs.Wedge.{are_nearer_first}
+use Rattle.plane.proofs.Directions.{nearer_self, nearer_onward, nearer_total}
+use Rattle.plane.proofs.ListTests.{contains_here, contains_there, contains_cases, contains_none}
+use Rattle.drawing.proofs.Members.{Pairwise}
+use Rattle.plane.specs.Direction.{is_nearer, straight_up, OneDirection, IsNotZero}
+use Rattle.drawing.specs.HalfEdge.{HalfEdge}
+use Rattle.drawing.specs.Star.{leaving, insert_clockwise, clockwise}
+use Rattle.plane.specs.Wedge.{are_nearer_first}
 
 -- the one comes strictly before the other, or the other before it
 abbrev pub first_of_two : HalfEdge → HalfEdge → Bool

@@ -5,13 +5,13 @@ use Rattle.std.specs.List.{Contains, list_any}
 use Rattle.std.proofs.lemmas.List.Elements.{Contains-append_left, Contains-append_right, Contains-append_cases}
 use Rattle.std.proofs.lemmas.Bool.{and_parts, cases_eq, false_from_ne_true, or_left, or_right}
 use Rattle.topo_base.specs.declared.ids.Dart.{Dart}
-use Rattle.topo_model.proofs.ListTests.{contains_here, contains_there, contains_cases, contains_none}
-use Rattle.topo_model.proofs.Members.{Pairwise, contains-filter, contains-filtered, contains-map, contains-mapped}
-use Rattle.topo_model.specs.Drawing.{Edge, edge_id_of}
-use Rattle.topo_model.specs.HalfEdge.{HalfEdge, forward_of, backward_of, both_ways, leaves, twin, same_half_edge, dart_of}
-use Rattle.topo_model.specs.Rows.{without_row}
-use Rattle.topo_model.specs.Star.{leaving, first_clockwise, or_twin, next_of, star}
-use Rattle.topo_model.specs.Tables.{edge_row}
+use Rattle.plane.proofs.ListTests.{contains_here, contains_there, contains_cases, contains_none}
+use Rattle.drawing.proofs.Members.{Pairwise, contains-filter, contains-filtered, contains-map, contains-mapped}
+use Rattle.drawing.specs.Drawing.{Edge, edge_id_of}
+use Rattle.drawing.specs.HalfEdge.{HalfEdge, forward_of, backward_of, both_ways, leaves, twin, same_half_edge, dart_of}
+use Rattle.drawing.specs.Rows.{without_row}
+use Rattle.drawing.specs.Star.{leaving, first_clockwise, or_twin, next_of, star}
+use Rattle.drawing.specs.Tables.{edge_row}
 use Rattle.edge_links.specs.Links.{dart_after}
 use Rattle.edge_links.specs.Unlinks.{is_other, others, before_gone}
 use Rattle.edge_links.proofs.Fewer.{is_other_half, filter_same, half_edges_fewer, star_fewer, darts_fewer, is_star_fewer}

@@ -6,13 +6,13 @@ use Rattle.std.proofs.lemmas.Bool.{or_left, or_right}
 use Rattle.topo_base.specs.declared.ids.Dart.{Dart}
 use Rattle.topo_base.specs.declared.rows.Counters.{Counters}
 use Rattle.topo_base.specs.declared.rows.EdgeRow.{EdgeRow}
-use Rattle.topo_model.proofs.ListTests.{contains_cases, contains_none}
-use Rattle.topo_model.specs.Drawing.{Edge}
-use Rattle.topo_model.specs.HalfEdge.{HalfEdge, forward_of, backward_of, both_ways, dart_of}
-use Rattle.topo_model.specs.Star.{star}
-use Rattle.topo_model.specs.Tables.{Tables, edge_row}
-use Rattle.topo_model.specs.Writable.{CanWriteAll, has_edge_row}
-use Rattle.topo_model.specs.Writes.{written, with_next, edge_row_id}
+use Rattle.plane.proofs.ListTests.{contains_cases, contains_none}
+use Rattle.drawing.specs.Drawing.{Edge}
+use Rattle.drawing.specs.HalfEdge.{HalfEdge, forward_of, backward_of, both_ways, dart_of}
+use Rattle.drawing.specs.Star.{star}
+use Rattle.drawing.specs.Tables.{Tables, edge_row}
+use Rattle.drawing.specs.Writable.{CanWriteAll, has_edge_row}
+use Rattle.drawing.specs.Writes.{written, with_next, edge_row_id}
 use Rattle.edge_links.specs.Links.{hand_back, index_after, index_before, dart_after, dart_before}
 use Rattle.edge_links.proofs.Following.{IsStar, of_star, at_has, place_in}
 use Rattle.edge_links.proofs.Half.{in_half_edges, half_id}

@@ -7,18 +7,18 @@ use Rattle.topo_base.specs.declared.write.RowId.TheVariants.{Old}
 use Rattle.topo_base.specs.declared.write.RowDart.{RowDart}
 use Rattle.topo_base.specs.declared.write.RowWrite.{RowWrite}
 use Rattle.topo_base.specs.declared.write.RowWrite.TheVariants.{AddEdge}
-use Rattle.topo_model.specs.AddEdge.{coming}
-use Rattle.topo_model.specs.Direction.{IsNotZero}
-use Rattle.topo_model.specs.Drawing.{Drawing}
-use Rattle.topo_model.specs.HalfEdge.{HalfEdge, half_edges, twin, dart_of}
-use Rattle.topo_model.specs.IsoEdits.{with_edge}
-use Rattle.topo_model.specs.Plain.{IsPlain}
-use Rattle.topo_model.specs.PlainLaw.{IsPlainInOrder}
-use Rattle.topo_model.specs.Star.{next_of, star}
-use Rattle.topo_model.specs.Tables.{Tables, tables_of}
-use Rattle.topo_model.specs.Wedge.{in_clockwise_order}
-use Rattle.topo_model.specs.Writable.{CanWriteAll}
-use Rattle.topo_model.specs.Writes.{written, all_written}
+use Rattle.drawing.specs.AddEdge.{coming}
+use Rattle.plane.specs.Direction.{IsNotZero}
+use Rattle.drawing.specs.Drawing.{Drawing}
+use Rattle.drawing.specs.HalfEdge.{HalfEdge, half_edges, twin, dart_of}
+use Rattle.drawing.specs.IsoEdits.{with_edge}
+use Rattle.drawing.specs.Plain.{IsPlain}
+use Rattle.drawing.specs.PlainInOrder.{IsPlainInOrder}
+use Rattle.drawing.specs.Star.{next_of, star}
+use Rattle.drawing.specs.Tables.{Tables, tables_of}
+use Rattle.plane.specs.Wedge.{in_clockwise_order}
+use Rattle.drawing.specs.Writable.{CanWriteAll}
+use Rattle.drawing.specs.Writes.{written, all_written}
 use Rattle.edge_links.specs.Links.{dart_after, links_round}
 use Rattle.edge_links.specs.Rays.{Rays, rays_of, with_both}
 

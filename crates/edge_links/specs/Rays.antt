@@ -4,12 +4,12 @@ use Rattle.std.specs.List.{position_or_len}
 use Rattle.topo_base.specs.declared.ids.Dart.{Dart}
 use Rattle.topo_base.specs.Point.{Point}
 use Rattle.topo_base.specs.declared.rows.EdgeRow.{EdgeRow}
-use Rattle.topo_model.specs.Direction.{Direction, is_nearer, straight_up}
-use Rattle.topo_model.specs.Drawing.{Edge}
-use Rattle.topo_model.specs.HalfEdge.{HalfEdge, dart_of, forward_of, backward_of, leaves}
-use Rattle.topo_model.specs.LinePoints.{has_proper_segments}
-use Rattle.topo_model.specs.Star.{leaving}
-use Rattle.topo_model.specs.Tables.{drawn_edge}
+use Rattle.plane.specs.Direction.{Direction, is_nearer, straight_up}
+use Rattle.drawing.specs.Drawing.{Edge}
+use Rattle.drawing.specs.HalfEdge.{HalfEdge, dart_of, forward_of, backward_of, leaves}
+use Rattle.plane.specs.LinePoints.{has_proper_segments}
+use Rattle.drawing.specs.Star.{leaving}
+use Rattle.drawing.specs.Tables.{drawn_edge}
 
 -- darts, and the directions in which they leave, in the same order
 pub record Rays : Type 0 where

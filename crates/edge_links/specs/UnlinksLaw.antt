@@ -3,12 +3,12 @@ use Rattle.std.specs.Prelude.{◌≡◌, ℕ, ◌==◌, List, [], ◌∷◌, ◌
 use Rattle.topo_base.specs.declared.write.RowId.TheVariants.{Old}
 use Rattle.topo_base.specs.declared.write.RowWrite.{RowWrite}
 use Rattle.topo_base.specs.declared.write.RowWrite.TheVariants.{DropEdge}
-use Rattle.topo_model.specs.Drawing.{Drawing, Edge, edge_id_of}
-use Rattle.topo_model.specs.PlainLaw.{IsPlainInOrder}
-use Rattle.topo_model.specs.Rows.{without_row}
-use Rattle.topo_model.specs.Tables.{Tables, tables_of}
-use Rattle.topo_model.specs.Writable.{CanWriteAll}
-use Rattle.topo_model.specs.Writes.{all_written}
+use Rattle.drawing.specs.Drawing.{Drawing, Edge, edge_id_of}
+use Rattle.drawing.specs.PlainInOrder.{IsPlainInOrder}
+use Rattle.drawing.specs.Rows.{without_row}
+use Rattle.drawing.specs.Tables.{Tables, tables_of}
+use Rattle.drawing.specs.Writable.{CanWriteAll}
+use Rattle.drawing.specs.Writes.{all_written}
 use Rattle.edge_links.specs.LinksLaw.{HasDirections, rays_at}
 use Rattle.edge_links.specs.Unlinks.{others, unlinks_round}
 

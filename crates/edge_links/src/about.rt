@@ -1,16 +1,16 @@
 ghost use Rattle.std.specs.Prelude.{◌≡◌, ℕ, reverse, map, flat_map, All, IfOk, OnOk, IsTrue};
 ghost use Rattle.std.specs.List.{list_all};
 ghost use Rattle.topo_base.specs.declared.rows.NodeRow.{NodeRow as NodeValue};
-ghost use Rattle.topo_model.specs.Direction.{first_direction, IsNotZero};
-ghost use Rattle.topo_model.specs.Drawing.{Drawing};
-ghost use Rattle.topo_model.specs.HalfEdge.{both_ways};
-ghost use Rattle.topo_model.specs.IsoEdits.{with_edge};
-ghost use Rattle.topo_model.specs.LinePoints.{has_proper_segments};
-ghost use Rattle.topo_model.specs.PlainLaw.{IsPlainInOrder};
-ghost use Rattle.topo_model.specs.Places.{rows_of};
-ghost use Rattle.topo_model.specs.Star.{star};
-ghost use Rattle.topo_model.specs.Tables.{drawn, drawn_edge};
-ghost use Rattle.topo_model.specs.Wedge.{in_clockwise_order};
+ghost use Rattle.plane.specs.Direction.{first_direction, IsNotZero};
+ghost use Rattle.drawing.specs.Drawing.{Drawing};
+ghost use Rattle.drawing.specs.HalfEdge.{both_ways};
+ghost use Rattle.drawing.specs.IsoEdits.{with_edge};
+ghost use Rattle.plane.specs.LinePoints.{has_proper_segments};
+ghost use Rattle.drawing.specs.PlainInOrder.{IsPlainInOrder};
+ghost use Rattle.drawing.specs.Places.{rows_of};
+ghost use Rattle.drawing.specs.Star.{star};
+ghost use Rattle.drawing.specs.Tables.{drawn, drawn_edge};
+ghost use Rattle.plane.specs.Wedge.{in_clockwise_order};
 ghost use Rattle.edge_links.specs.LinksLaw.{HasDirections, IsComing, rays_at};
 ghost use Rattle.edge_links.specs.Rays.{edge_between, has_proper_line, in_each_slot, rays_of, with_both, with_slot};
 

@@ -1,5 +1,5 @@
 ghost use Rattle.std.specs.Prelude.{◌≡◌, ◌≤◌, length, All, OnOk, OnErr};
-ghost use Rattle.topo_model.specs.Direction.{is_nearer, straight_up, IsNotZero};
+ghost use Rattle.plane.specs.Direction.{is_nearer, straight_up, IsNotZero};
 ghost use Rattle.edge_links.specs.Rays.{no_rays, with_ray, place_for};
 
 use grid_angle::{Dir, clockwise};
@@ -18,7 +18,7 @@ pub struct Star {
 
 impl Model for Star {
     ghost use Rattle.std.specs.Prelude.{◌≡◌, length, All};
-    ghost use Rattle.topo_model.specs.Direction.{IsNotZero};
+    ghost use Rattle.plane.specs.Direction.{IsNotZero};
     ghost use Rattle.edge_links.specs.Rays.{Rays};
 
     ghost Value = { Rays };

@@ -1,7 +1,7 @@
 //! Stars with near directions, closed edges, and the links round an edge that comes or goes.
 
 ghost use Rattle.std.specs.Prelude.{◌≡◌, ◌<◌, ◌^◌, ◌≤ℤ◌, pos, slice_index, IfOk, IsTrue};
-ghost use Rattle.topo_model.specs.LinePoints.{has_proper_segments};
+ghost use Rattle.plane.specs.LinePoints.{has_proper_segments};
 ghost use Rattle.edge_links.specs.Rays.{has_proper_line};
 
 use crate::about::star_among;

@@ -1,12 +1,12 @@
 -- No next id falls, by changes.
 use Rattle.std.proofs.Common.{arith, List, [], ◌∷◌}
 use Rattle.topo_base.specs.declared.edit.Edit.{Edit}
-use Rattle.topo_model.specs.Drawing.{Drawing}
-use Rattle.topo_model.specs.Replay.{after, after_all}
-use Rattle.topo_model.specs.Laws.{IdsGrow}
-use Rattle.topo_model.specs.Change.{Change, NodeComes, NodeMoves, NodeGoes, EdgeComes, FaceIsDivided, FaceIsDividedAnew, LoneEdgeGoes, EdgeGoes, FacesJoin, FacesJoinAnew, EdgeIsCut, EdgeIsCutAnew, EdgesAreJoined, EdgesAreJoinedAnew, LayerComes, FeatureComes, FeatureLists, FeatureUnlists, FeatureGoes}
-use Rattle.topo_model.specs.Apply.{apply}
-use Rattle.edit_changes.proofs.Histories.{after_any}
+use Rattle.drawing.specs.Drawing.{Drawing}
+use Rattle.drawing.specs.Replay.{after, after_all}
+use Rattle.edit_changes.specs.IdsLaw.{IdsGrow}
+use Rattle.drawing.specs.Change.{Change, NodeComes, NodeMoves, NodeGoes, EdgeComes, FaceIsDivided, FaceIsDividedAnew, LoneEdgeGoes, EdgeGoes, FacesJoin, FacesJoinAnew, EdgeIsCut, EdgeIsCutAnew, EdgesAreJoined, EdgesAreJoinedAnew, LayerComes, FeatureComes, FeatureLists, FeatureUnlists, FeatureGoes}
+use Rattle.drawing.specs.Apply.{apply}
+use Rattle.edit_changes.proofs.Histories.{after_change}
 
 change_grows : (S : Drawing) (c : Change) → IdsGrow S ((apply S c).drawing)
 change_grows S (NodeComes face p) = search arith
@@ -37,4 +37,4 @@ then S T U h k = search arith
 
 pub all_grow : (S : Drawing) (es : List Edit) → IdsGrow S (after_all S es)
 all_grow S [] = same_ids S
-all_grow S (e ∷ es) = then S (after S e) _ (after_any (IdsGrow S) S e (λ c _. change_grows S c) (same_ids S)) (all_grow (after S e) es)
+all_grow S (e ∷ es) = then S (after S e) _ (after_change (IdsGrow S) S e (λ c _. change_grows S c) (same_ids S)) (all_grow (after S e) es)

@@ -5,24 +5,32 @@ use Rattle.std.proofs.lemmas.Bool.{and_from}
 use Rattle.topo_base.specs.Point.{Point}
 use Rattle.topo_base.specs.declared.rows.NodeRow.{NodeRow}
 use Rattle.topo_base.specs.declared.edit.Edit.{Edit}
-use Rattle.topo_model.specs.Drawing.{Drawing, Edge, nothing_drawn, node_id_of, edge_id_of, layer_id_of, feature_id_of}
-use Rattle.topo_model.specs.Subdivision.{ids_in_order, face_id_of}
-use Rattle.topo_model.specs.Replay.{after, after_all}
-use Rattle.topo_model.specs.Rows.{without_row}
-use Rattle.topo_model.specs.IsoEdits.{with_node, with_edge, put_in_face}
-use Rattle.topo_model.specs.HalfEdge.{half_edges}
-use Rattle.topo_model.specs.AddEdge.{Division, divided, divided_node, divided_edge}
-use Rattle.topo_model.specs.RemoveEdge.{without_edge, without_faces, renamed_node, renamed_edge}
-use Rattle.topo_model.specs.SplitEdge.{first_part, second_part}
-use Rattle.topo_model.specs.HealEdges.{joined_edge}
-use Rattle.topo_model.proofs.Ordering.{InOrder, InOrder-push, InOrder-filter, InOrder-map, InOrder-change}
-use Rattle.topo_model.proofs.IdsOrdering.{AllInOrder}
-use Rattle.topo_model.specs.Change.{Change, NodeComes, NodeMoves, NodeGoes, EdgeComes, FaceIsDivided, FaceIsDividedAnew, LoneEdgeGoes, EdgeGoes, FacesJoin, FacesJoinAnew, EdgeIsCut, EdgeIsCutAnew, EdgesAreJoined, EdgesAreJoinedAnew, LayerComes, FeatureComes, FeatureLists, FeatureUnlists, FeatureGoes}
-use Rattle.topo_model.specs.Apply.{apply}
-use Rattle.edit_changes.proofs.Histories.{after_any}
+use Rattle.drawing.specs.Drawing.{Drawing, Edge, nothing_drawn, node_id_of, edge_id_of, layer_id_of, feature_id_of}
+use Rattle.drawing.specs.Subdivision.{ids_in_order, face_id_of}
+use Rattle.drawing.specs.Replay.{after_all}
+use Rattle.drawing.specs.Rows.{without_row}
+use Rattle.drawing.specs.IsoEdits.{with_node, with_edge, put_in_face}
+use Rattle.drawing.specs.HalfEdge.{half_edges}
+use Rattle.drawing.specs.AddEdge.{Division, divided, divided_node, divided_edge}
+use Rattle.drawing.specs.RemoveEdge.{without_edge, without_faces, renamed_node, renamed_edge}
+use Rattle.drawing.specs.SplitEdge.{first_part, second_part}
+use Rattle.drawing.specs.HealEdges.{joined_edge}
+use Rattle.drawing.proofs.Ordering.{InOrder, InOrder-push, InOrder-filter, InOrder-map, InOrder-change}
+use Rattle.drawing.specs.Change.{Change, NodeComes, NodeMoves, NodeGoes, EdgeComes, FaceIsDivided, FaceIsDividedAnew, LoneEdgeGoes, EdgeGoes, FacesJoin, FacesJoinAnew, EdgeIsCut, EdgeIsCutAnew, EdgesAreJoined, EdgesAreJoinedAnew, LayerComes, FeatureComes, FeatureLists, FeatureUnlists, FeatureGoes}
+use Rattle.drawing.specs.Apply.{apply}
+use Rattle.edit_changes.proofs.Histories.{all_changes}
+
+-- the five parts of the test
+pub record AllInOrder (S : Drawing) : Type 0 where
+  pub nodes : InOrder node_id_of 1 S.next_ids.node S.nodes
+  pub edges : InOrder edge_id_of 1 S.next_ids.edge S.edges
+  pub faces : InOrder face_id_of 0 S.next_ids.face S.faces
+  pub layers : InOrder layer_id_of 1 S.next_ids.layer S.layers
+  pub features : InOrder feature_id_of 1 S.next_ids.feature S.features
+  pub starts : (1 ≤ S.next_ids.node) × (1 ≤ S.next_ids.edge) × (1 ≤ S.next_ids.layer) × (1 ≤ S.next_ids.feature)
 
 -- ---- lists of rows
-push_two : {R : Type 0} (id : R → ℕ) (low next : ℕ) (rows : List R) (x y : R) → id x ≡ next → id y ≡ next + 1 → low ≤ next → InOrder id low next rows → InOrder id low (next + 2) (rows ++ x ∷ y ∷ [])
+pub push_two : {R : Type 0} (id : R → ℕ) (low next : ℕ) (rows : List R) (x y : R) → id x ≡ next → id y ≡ next + 1 → low ≤ next → InOrder id low next rows → InOrder id low (next + 2) (rows ++ x ∷ y ∷ [])
 push_two id low next rows x y ix iy from h =
     let two = InOrder-push id low (next + 1) (rows ++ x ∷ []) y iy (omega arith) (InOrder-push id low next rows x ix from h) in
     let e : next + 1 + 1 ≡ next + 2 = omega arith in
@@ -41,7 +49,7 @@ less S e edges h = InOrder-filter edge_id_of 1 S.next_ids.edge (λ r. not (edge_
 less_nodes : (S : Drawing) (n : ℕ) → AllInOrder S → InOrder node_id_of 1 S.next_ids.node (without_row node_id_of S.nodes n)
 less_nodes S n h = InOrder-filter node_id_of 1 S.next_ids.node (λ r. not (node_id_of r == n)) S.nodes h.nodes
 
-joined_id : (n : ℕ) (x f : Edge) (k : ℕ) → edge_id_of (joined_edge n x f k) ≡ k
+pub joined_id : (n : ℕ) (x f : Edge) (k : ℕ) → edge_id_of (joined_edge n x f k) ≡ k
 joined_id n x f k = either_id edge_id_of _ _ _ k refl refl
 
 -- ---- changes of several edits
@@ -119,9 +127,8 @@ change_ordered S (FeatureUnlists row) h = record { nodes = h.nodes; edges = h.ed
 change_ordered S (FeatureGoes t) h = record { features = InOrder-filter feature_id_of 1 S.next_ids.feature (λ r. not (feature_id_of r == t.feature_id)) S.features h.features; nodes = h.nodes; edges = h.edges; faces = h.faces; layers = h.layers; starts = h.starts }
 
 -- ---- and all of them
-all_ordered : (S : Drawing) (es : List Edit) → AllInOrder S → AllInOrder (after_all S es)
-all_ordered S [] h = h
-all_ordered S (e ∷ es) h = all_ordered (after S e) es (after_any AllInOrder S e (λ c _. change_ordered S c h) h)
+pub all_ordered : (S : Drawing) (es : List Edit) → AllInOrder S → AllInOrder (after_all S es)
+all_ordered S es h = all_changes AllInOrder (λ T c _ k. change_ordered T c k) S es h
 
 begun : AllInOrder nothing_drawn
 begun = record { nodes = record { test = refl }; edges = record { test = refl }; faces = record { test = refl }; layers = record { test = refl }; features = record { test = refl }; starts = (omega arith, omega arith, omega arith, omega arith) }

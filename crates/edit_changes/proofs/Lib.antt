@@ -1,8 +1,13 @@
-pub mod LoneEdges
 pub mod Evidence
+pub mod LoneEdges
 pub mod Histories
 pub mod ChangesHold
 pub mod IdsGrowing
 pub mod IdsOrdering
 pub mod LongLines
 pub mod VerticesStay
+pub mod PlainHeals
+pub mod PlainStaying
+pub mod PlainOthers
+pub mod PlainHealing
+pub mod PlainStays

@@ -4,14 +4,14 @@ use Rattle.std.specs.List.{list_any}
 use Rattle.std.proofs.lemmas.Bool.{eq-eqb, not-true}
 use Rattle.topo_base.specs.Point.{Point}
 use Rattle.topo_base.specs.declared.rows.NodeRow.{NodeRow}
-use Rattle.topo_model.specs.Drawing.{Drawing, Edge, is_end_of, is_isolated}
-use Rattle.topo_model.specs.Direction.{Direction}
-use Rattle.topo_model.specs.Faces.{face_after, wedge_face}
-use Rattle.topo_model.specs.HalfEdge.{HalfEdge, forward_of, backward_of, both_ways, half_edges, leaves, same_half_edge, twin}
-use Rattle.topo_model.specs.Ring.{walk, contains_half_edge}
-use Rattle.topo_model.specs.Star.{next_of, leaving, or_twin, first_clockwise, last_clockwise}
-use Rattle.topo_model.specs.IsoEdits.{with_edge}
-use Rattle.topo_model.specs.AddEdge.{coming}
+use Rattle.drawing.specs.Drawing.{Drawing, Edge, is_end_of, is_isolated}
+use Rattle.plane.specs.Direction.{Direction}
+use Rattle.drawing.specs.Faces.{face_after, wedge_face}
+use Rattle.drawing.specs.HalfEdge.{HalfEdge, forward_of, backward_of, both_ways, half_edges, leaves, same_half_edge, twin}
+use Rattle.drawing.specs.Ring.{walk, contains_half_edge}
+use Rattle.drawing.specs.Star.{next_of, leaving, or_twin, first_clockwise, last_clockwise}
+use Rattle.drawing.specs.IsoEdits.{with_edge}
+use Rattle.drawing.specs.AddEdge.{coming}
 use Rattle.edit_changes.specs.Evidence.{left_ring}
 
 or_false : (b c : Bool) → (b || c) ≡ false → (b ≡ false) × (c ≡ false)

@@ -1,4 +1,4 @@
--- Lines of two vertices or more: lists of edges, and parts of lines. (These stand in face_rings/proofs/VerticesStay, where they are private.)
+-- Lines of two vertices or more: lists of edges, and parts of lines.
 use Rattle.std.proofs.Common.{◌≡◌, ℕ, ◌≤◌, refl, sym, ◌∙◌, subst, arith, ⊎_elim, Bool, true, false, cond, not, ◌||◌, List, [], ◌∷◌, ◌++◌, length, map, filter}
 use Rattle.std.specs.Prelude.{◌==◌, nat_le, reverse}
 use Rattle.std.specs.List.{Contains}
@@ -6,16 +6,16 @@ use Rattle.std.proofs.lemmas.Bool.{and_parts, false≢true, eqb-true, leb-true, 
 use Rattle.std.proofs.lemmas.List.{length-append, length-reverse}
 use Rattle.std.proofs.lemmas.List.Elements.{All-contains, Contains-append_cases, Contains-push_cases}
 use Rattle.topo_base.specs.Point.{Point, same_point}
-use Rattle.topo_model.specs.Segment.{on_segment}
-use Rattle.topo_model.specs.Line.{first_vertex, last_vertex, on_line, is_line_end, is_inside_line, line_up_to, line_from, without_first, joined}
-use Rattle.topo_model.specs.Drawing.{Edge, edge_id_of}
-use Rattle.topo_model.specs.Rows.{with_change}
-use Rattle.topo_model.specs.HalfEdge.{HalfEdge, forward_of, backward_of}
-use Rattle.topo_model.specs.HealEdges.{away_from, joined_edge}
-use Rattle.topo_model.proofs.ListTests.{contains_cases, contains_none, Decides-all}
-use Rattle.topo_model.proofs.Members.{contains-mapped, contains-filtered}
-use Rattle.topo_model.proofs.BlockedTests.{all_from}
-use Rattle.face_rings.specs.FaceBorder.{have_segments}
+use Rattle.plane.specs.Segment.{on_segment}
+use Rattle.plane.specs.Line.{first_vertex, last_vertex, on_line, is_line_end, is_inside_line, line_up_to, line_from, without_first, joined}
+use Rattle.drawing.specs.Drawing.{Edge, edge_id_of}
+use Rattle.drawing.specs.Rows.{with_change}
+use Rattle.drawing.specs.HalfEdge.{HalfEdge, forward_of, backward_of}
+use Rattle.drawing.specs.HealEdges.{away_from, joined_edge}
+use Rattle.plane.proofs.ListTests.{contains_cases, contains_none, Decides-all}
+use Rattle.drawing.proofs.Members.{contains-mapped, contains-filtered}
+use Rattle.plane.proofs.LineTests.{all_from}
+use Rattle.drawing.specs.Vertices.{have_segments}
 
 pub record AreLong (edges : List Edge) : Type 0 where
   pub each : (e : Edge) → Contains edges e → 2 ≤ length e.geom

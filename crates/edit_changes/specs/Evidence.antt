@@ -1,5 +1,5 @@
--- What is known of a change that was decided, for every drawing and every edit within the limits.
-use Rattle.std.specs.Prelude.{◌≡◌, ◌≢◌, ◌≤◌, ◌⊎◌, ℕ, ◌+◌, true, false, List, [], length, Option, Some, None}
+-- What is known of a change that was decided.
+use Rattle.std.specs.Prelude.{◌≡◌, ◌≢◌, ◌⊎◌, ℕ, ◌+◌, Bool, true, false, nat_le, List, [], length, Option, Some, None}
 use Rattle.std.specs.List.{list_any, Contains}
 use Rattle.topo_base.specs.Point.{Point}
 use Rattle.topo_base.specs.declared.kind.Kind.{Kind}
@@ -8,19 +8,20 @@ use Rattle.topo_base.specs.declared.rows.NodeRow.{NodeRow}
 use Rattle.topo_base.specs.declared.rows.LayerRow.{LayerRow}
 use Rattle.topo_base.specs.declared.rows.FeatureRow.{FeatureRow}
 use Rattle.topo_base.specs.declared.rows.RelationRow.{RelationRow}
-use Rattle.topo_model.specs.Line.{is_simple, is_inside_line}
-use Rattle.topo_model.specs.Drawing.{Drawing, Edge, is_isolated, is_end_of, has_only}
-use Rattle.topo_model.specs.HalfEdge.{HalfEdge, forward_of, backward_of, half_edges}
-use Rattle.topo_model.specs.Ring.{ring_of, contains_half_edge}
-use Rattle.topo_model.specs.Faces.{face_at}
-use Rattle.topo_model.specs.Relations.{node_type, edge_type, face_type, lists_feature}
-use Rattle.topo_model.specs.Blocked.{is_blocked, is_blocked_for, is_line_blocked, goes_between}
-use Rattle.topo_model.specs.IsoEdits.{is_in_feature, is_isolated_edge, with_edge}
-use Rattle.topo_model.specs.AddEdge.{coming, one_new, two_new, face_at_start, face_at_end}
-use Rattle.topo_model.specs.RemoveEdge.{have_same_features}
-use Rattle.topo_model.specs.HealEdges.{is_closed, common_nodes, is_nothing, healed_node}
-use Rattle.topo_model.specs.Layers.{is_name_taken, same_kind, elements_rule, element_rule, row_for, is_element_listed}
-use Rattle.topo_model.specs.Change.{Change, NodeComes, NodeMoves, NodeGoes, EdgeComes, FaceIsDivided, FaceIsDividedAnew, LoneEdgeGoes, EdgeGoes, FacesJoin, FacesJoinAnew, EdgeIsCut, EdgeIsCutAnew, EdgesAreJoined, EdgesAreJoinedAnew, LayerComes, FeatureComes, FeatureLists, FeatureUnlists, FeatureGoes}
+use Rattle.plane.specs.Line.{is_simple, is_inside_line}
+use Rattle.drawing.specs.Drawing.{Drawing, Edge, is_isolated, is_end_of, has_only}
+use Rattle.drawing.specs.HalfEdge.{HalfEdge, forward_of, backward_of, half_edges}
+use Rattle.drawing.specs.Ring.{ring_of, contains_half_edge}
+use Rattle.drawing.specs.Faces.{face_at}
+use Rattle.drawing.specs.Relations.{node_type, edge_type, face_type, lists_feature}
+use Rattle.drawing.specs.Blocked.{is_blocked, is_blocked_for, is_line_blocked, goes_between}
+use Rattle.drawing.specs.IsoEdits.{is_in_feature, is_isolated_edge, with_edge}
+use Rattle.drawing.specs.AddEdge.{coming, one_new, two_new, face_at_start, face_at_end}
+use Rattle.drawing.specs.RemoveEdge.{have_same_features}
+use Rattle.drawing.specs.HealEdges.{is_closed, common_nodes, is_nothing, healed_node}
+use Rattle.drawing.specs.Layers.{is_name_taken, same_kind, elements_rule, element_rule, row_for, is_element_listed}
+use Rattle.drawing.specs.Accepted.{is_line_short}
+use Rattle.drawing.specs.Change.{Change, NodeComes, NodeMoves, NodeGoes, EdgeComes, FaceIsDivided, FaceIsDividedAnew, LoneEdgeGoes, EdgeGoes, FacesJoin, FacesJoinAnew, EdgeIsCut, EdgeIsCutAnew, EdgesAreJoined, EdgesAreJoinedAnew, LayerComes, FeatureComes, FeatureLists, FeatureUnlists, FeatureGoes}
 
 -- ---- nodes
 pub record NodeMayCome (S : Drawing) (face : ℕ) (p : Point) : Type 0 where
@@ -49,8 +50,6 @@ right_ring S a b line face = ring_of (half_edges (with_edge S a b line face)) (b
 pub record EdgeMayCome (S : Drawing) (a b : NodeRow) (line : List Point) (face : ℕ) : Type 0 where
   pub start_there : Contains S.nodes a
   pub end_there : Contains S.nodes b
-  pub long : 2 ≤ length line
-  pub short : length line ≤ 4096
   pub ends : goes_between a b line ≡ true
   pub simple : is_simple line ≡ true
   pub free : is_line_blocked S line ≡ false
@@ -124,7 +123,6 @@ pub record LayerMayCome (S : Drawing) (name : List ℕ) (kind : Kind) (child : O
 
 pub record FeatureMayCome (S : Drawing) (layer : LayerRow) (xs : List Pair) : Type 0 where
   pub there : Contains S.layers layer
-  pub short : length xs ≤ 4096
   pub allowed : elements_rule S layer [] xs ≡ None
 
 pub record FeatureMayList (S : Drawing) (row : RelationRow) : Type 0 where
@@ -172,3 +170,25 @@ IsDecided S (FeatureComes layer xs) = FeatureMayCome S layer xs
 IsDecided S (FeatureLists row) = FeatureMayList S row
 IsDecided S (FeatureUnlists row) = FeatureMayUnlist S row
 IsDecided S (FeatureGoes t) = FeatureMayGo S t
+
+-- the line of an edge that comes, and the elements of a feature that comes, are within the limits
+abbrev pub is_within : Change → Bool
+is_within (NodeComes face p) = true
+is_within (NodeMoves n p) = true
+is_within (NodeGoes n) = true
+is_within (EdgeComes a b line face) = is_line_short line
+is_within (FaceIsDivided a b line d) = is_line_short line
+is_within (FaceIsDividedAnew a b line d) = is_line_short line
+is_within (LoneEdgeGoes e) = true
+is_within (EdgeGoes e) = true
+is_within (FacesJoin e kept goes) = true
+is_within (FacesJoinAnew e) = true
+is_within (EdgeIsCut e p) = true
+is_within (EdgeIsCutAnew e p) = true
+is_within (EdgesAreJoined e f n) = true
+is_within (EdgesAreJoinedAnew e f n) = true
+is_within (LayerComes name kind child level) = true
+is_within (FeatureComes layer xs) = nat_le (length xs) 4096
+is_within (FeatureLists row) = true
+is_within (FeatureUnlists row) = true
+is_within (FeatureGoes t) = true

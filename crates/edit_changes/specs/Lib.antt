@@ -1,2 +1,5 @@
 pub mod Evidence
 pub mod ChangeLaw
+pub mod IdsLaw
+pub mod VerticesLaw
+pub mod PlainLaw

@@ -3,11 +3,11 @@ use Rattle.std.proofs.Common.{◌≡◌, ℕ, Bool, true, false, not, ◌&&◌, 
 use Rattle.std.specs.Prelude.{is_some}
 use Rattle.std.specs.List.{list_any, list_all}
 use Rattle.topo_base.specs.declared.rows.RelationRow.{RelationRow}
-use Rattle.topo_model.specs.Drawing.{Drawing}
-use Rattle.topo_model.specs.IsoEdits.{is_in_feature}
-use Rattle.topo_model.specs.Relations.{lists_element}
-use Rattle.topo_model.specs.Rows.{row_at, has_row, with_change}
-use Rattle.topo_model.proofs.RowLemmas.{is_some-row_at}
+use Rattle.drawing.specs.Drawing.{Drawing}
+use Rattle.drawing.specs.IsoEdits.{is_in_feature}
+use Rattle.drawing.specs.Relations.{lists_element}
+use Rattle.drawing.specs.Rows.{row_at, has_row, with_change}
+use Rattle.drawing.proofs.RowLemmas.{is_some-row_at}
 
 -- ---- whether a feature lists an element, row by row
 none_step : {A B : Type 0} (f : A → B) (x : A) (rest : List A) (b c : Bool) → (c ≡ false → map f rest ≡ []) → (b || c) ≡ false → map f (cond b (x ∷ rest) rest) ≡ []

@@ -8,15 +8,15 @@ use Rattle.std.proofs.lemmas.Bool.{and_parts, and_from}
 use Rattle.std.proofs.lemmas.List.Folds.{list_all-map}
 use Rattle.topo_base.specs.Point.{Point}
 use Rattle.topo_base.specs.declared.rows.EdgeRow.{EdgeRow}
-use Rattle.topo_model.specs.Drawing.{Drawing, Edge, is_end_of, is_isolated, has_only, edge_id_of, edge_at}
-use Rattle.topo_model.specs.Blocked.{is_on_edge}
-use Rattle.topo_model.specs.Line.{first_vertex, last_vertex, on_line, meets_at_own_ends}
-use Rattle.topo_model.specs.LinePoints.{has_proper_segments}
-use Rattle.topo_model.specs.Plain.{IsPlain, is_between_nodes, has_point}
-use Rattle.topo_model.specs.Rows.{row_at}
-use Rattle.topo_model.specs.Writes.{edge_row_id}
-use Rattle.topo_model.specs.Tables.{Tables, drawn, drawn_edge}
-use Rattle.topo_model.proofs.TableLemmas.{list_any-map}
+use Rattle.drawing.specs.Drawing.{Drawing, Edge, is_end_of, is_isolated, has_only, edge_id_of, edge_at}
+use Rattle.drawing.specs.Blocked.{is_on_edge}
+use Rattle.plane.specs.Line.{first_vertex, last_vertex, on_line, meets_at_own_ends}
+use Rattle.plane.specs.LinePoints.{has_proper_segments}
+use Rattle.drawing.specs.Plain.{IsPlain, is_between_nodes, has_point}
+use Rattle.drawing.specs.Rows.{row_at}
+use Rattle.drawing.specs.Writes.{edge_row_id}
+use Rattle.drawing.specs.Tables.{Tables, drawn, drawn_edge}
+use Rattle.drawing.proofs.TableLemmas.{list_any-map}
 use Rattle.edit_conditions.proofs.IsolatedTests.{not_all_is}
 
 -- a test that fits each row

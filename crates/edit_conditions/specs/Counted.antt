@@ -3,7 +3,7 @@ use Rattle.std.specs.Prelude.{ℕ, ◌+◌, ◌*◌, List, length}
 use Rattle.std.specs.List.{sum_by}
 use Rattle.topo_base.specs.Point.{Point}
 use Rattle.topo_base.specs.declared.rows.EdgeRow.{EdgeRow}
-use Rattle.topo_model.specs.Tables.{Tables}
+use Rattle.drawing.specs.Tables.{Tables}
 
 -- a point against an edge: its row, and each of its segments; a line against one: its row, and each two segments
 abbrev pub point_steps : EdgeRow → ℕ

@@ -6,14 +6,14 @@ ghost use Rattle.std.specs.List.{list_all, list_any, sum_by};
 ghost use Rattle.topo_base.specs.Point.{same_point};
 ghost use Rattle.topo_base.specs.declared.rows.NodeRow.{NodeRow as NodeValue};
 ghost use Rattle.edit_conditions.specs.Counted.{point_steps, line_steps, all_point_steps, all_line_steps};
-ghost use Rattle.topo_model.specs.Blocked.{is_blocked, is_blocked_for, is_line_blocked, is_on_edge, goes_between};
-ghost use Rattle.topo_model.specs.Drawing.{Edge, has_only, is_isolated};
-ghost use Rattle.topo_model.specs.IsoEdits.{accepts_face, is_given_face, is_in_feature, is_isolated_edge};
-ghost use Rattle.topo_model.specs.Line.{is_inside_line, meets_at_own_ends};
-ghost use Rattle.topo_model.specs.LinePoints.{has_proper_segments};
-ghost use Rattle.topo_model.specs.Plain.{IsPlain};
-ghost use Rattle.topo_model.specs.Relations.{lists_element};
-ghost use Rattle.topo_model.specs.Tables.{drawn, drawn_edge};
+ghost use Rattle.drawing.specs.Blocked.{is_blocked, is_blocked_for, is_line_blocked, is_on_edge, goes_between};
+ghost use Rattle.drawing.specs.Drawing.{Edge, has_only, is_isolated};
+ghost use Rattle.drawing.specs.IsoEdits.{accepts_face, is_given_face, is_in_feature, is_isolated_edge};
+ghost use Rattle.plane.specs.Line.{is_inside_line, meets_at_own_ends};
+ghost use Rattle.plane.specs.LinePoints.{has_proper_segments};
+ghost use Rattle.drawing.specs.Plain.{IsPlain};
+ghost use Rattle.drawing.specs.Relations.{lists_element};
+ghost use Rattle.drawing.specs.Tables.{drawn, drawn_edge};
 
 use crate::row_tests::{
     EndsAt, HasPoint, LiesInside, MeetsInside, OtherEndsAt, OtherHasPoint, PassesThrough,

@@ -1,10 +1,10 @@
 // Tests of rows.
 ghost use Rattle.std.specs.Prelude.{◌≡◌, ◌+◌, ◌*◌, ◌==◌, ◌&&◌, not, true, length};
 ghost use Rattle.topo_base.specs.Point.{same_point};
-ghost use Rattle.topo_model.specs.Drawing.{is_end_of};
-ghost use Rattle.topo_model.specs.Line.{on_line, is_inside_line, meets_at_own_ends};
-ghost use Rattle.topo_model.specs.LinePoints.{has_proper_segments};
-ghost use Rattle.topo_model.specs.Tables.{drawn_edge};
+ghost use Rattle.drawing.specs.Drawing.{is_end_of};
+ghost use Rattle.plane.specs.Line.{on_line, is_inside_line, meets_at_own_ends};
+ghost use Rattle.plane.specs.LinePoints.{has_proper_segments};
+ghost use Rattle.drawing.specs.Tables.{drawn_edge};
 
 use crate::scan::RowTest;
 use grid_lines::{is_inside_line, is_same_point, meets_at_own_ends, on_line};

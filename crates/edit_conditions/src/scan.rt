@@ -1,6 +1,6 @@
 ghost use Rattle.std.specs.Prelude.{◌≡◌, ◌+◌, ◌≤◌, ℕ, Bool, IsTrue};
 ghost use Rattle.std.specs.List.{list_any, list_all, sum_by};
-ghost use Rattle.topo_model.specs.Places.{rows_of};
+ghost use Rattle.drawing.specs.Places.{rows_of};
 
 use std::sync::ledger::Ledger;
 use topo_base::Steps;

@@ -3,13 +3,13 @@ use Rattle.std.proofs.Common.{◌≡◌, ℕ, List, IsTrue, Ok, refl, sym, ap, �
 use Rattle.topo_base.specs.declared.edit.Edit.{Edit}
 use Rattle.topo_base.specs.declared.element.Element.{Element}
 use Rattle.topo_base.specs.declared.write.RowWrite.{RowWrite}
-use Rattle.topo_model.specs.Drawing.{nothing_drawn}
-use Rattle.topo_model.specs.Legal.{keeps_limits}
-use Rattle.topo_model.specs.Replay.{after}
-use Rattle.topo_model.specs.Tables.{Tables, tables_of, drawn}
-use Rattle.topo_model.specs.Writable.{CanWriteAll}
-use Rattle.topo_model.specs.Writes.{all_written}
-use Rattle.topo_model.proofs.TableLemmas.{drawn-tables_of}
+use Rattle.drawing.specs.Drawing.{nothing_drawn}
+use Rattle.drawing.specs.Accepted.{keeps_limits}
+use Rattle.drawing.specs.Replay.{after}
+use Rattle.drawing.specs.Tables.{Tables, tables_of, drawn}
+use Rattle.drawing.specs.Writable.{CanWriteAll}
+use Rattle.drawing.specs.Writes.{all_written}
+use Rattle.drawing.proofs.TableLemmas.{drawn-tables_of}
 use Rattle.topo_tables.specs.Taken.{Taken}
 use Rattle.read_set.specs.Answered.{IsAnswered}
 use Rattle.read_set.specs.Planned.{Planned}

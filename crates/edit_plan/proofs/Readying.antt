@@ -3,9 +3,9 @@ use Rattle.std.proofs.Common.{◌≡◌, ℕ, Bool, true, ◌&&◌, List, [], �
 use Rattle.std.specs.List.{list_all}
 use Rattle.std.proofs.lemmas.Bool.{and_parts, and_from}
 use Rattle.topo_base.specs.declared.rows.NodeRow.{NodeRow}
-use Rattle.topo_model.specs.Drawing.{Drawing, Edge, layer_id_of, feature_id_of, has_node, has_face, is_isolated}
-use Rattle.topo_model.specs.IsoEdits.{accepts_face}
-use Rattle.topo_model.specs.Subdivision.{ids_in_order, rows_in_order, face_id_of, is_edge_known, is_face_known, is_node_known}
+use Rattle.drawing.specs.Drawing.{Drawing, Edge, layer_id_of, feature_id_of, has_node, has_face, is_isolated}
+use Rattle.drawing.specs.IsoEdits.{accepts_face}
+use Rattle.drawing.specs.Subdivision.{ids_in_order, rows_in_order, face_id_of, is_edge_known, is_face_known, is_node_known}
 use Rattle.iso_edits.specs.Ready.{KnowsFaces, knows_containing, knows_sides}
 use Rattle.iso_edits.specs.Ready as iso
 use Rattle.edge_heal.specs.Ready as heal

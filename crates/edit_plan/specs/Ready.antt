@@ -2,8 +2,8 @@
 use Rattle.std.specs.Prelude.{◌≡◌, ◌+◌, ◌<◌, ◌^◌, Bool, true, false}
 use Rattle.topo_base.specs.declared.edit.Edit.{Edit}
 use Rattle.topo_base.specs.declared.edit.Edit.TheVariants.{AddEdgeModFace, AddEdgeNewFaces, RemEdgeModFace, RemEdgeNewFace, ModEdgeSplit, NewEdgesSplit, ModEdgeHeal, NewEdgeHeal, AddLayer, CreateTopoGeom, AddElement, RemElement, DropFeature}
-use Rattle.topo_model.specs.Drawing.{Drawing}
-use Rattle.topo_model.specs.Tables.{Tables, tables_of, drawn}
+use Rattle.drawing.specs.Drawing.{Drawing}
+use Rattle.drawing.specs.Tables.{Tables, tables_of, drawn}
 use Rattle.reference_laws.specs.Referenced.{IsReferenced}
 
 -- tables that stand for a drawing whose rings have one face each and whose references are known

@@ -1,7 +1,7 @@
 ghost use Rattle.std.specs.Prelude.{◌≡◌};
 ghost use Rattle.read_set.specs.Answered.{IsAnswered};
 ghost use Rattle.read_set.specs.Planned.{IsEditor};
-ghost use Rattle.topo_model.specs.Tables.{drawn, tables_of};
+ghost use Rattle.drawing.specs.Tables.{drawn, tables_of};
 ghost use Rattle.edit_plan.specs.Ready.{IsReady, adds_edge, adds_layer, changes_features, removes_edge, splits_or_heals};
 
 use read_set::{Plan, PlanEnd};

@@ -2,7 +2,7 @@
 ghost use Rattle.std.specs.Prelude.{◌≡◌, ◌++◌, ◌∷◌, [], OnOk, IfOk, codes, flat_map};
 ghost use Rattle.std.specs.Fmt.{decimal};
 ghost use Rattle.std.specs.List.{join_with_byte};
-ghost use Rattle.topo_model.specs.Words.{spaced, option_word, point_words, line_words, pair_words, kind_word, edit_words, line_of};
+ghost use Rattle.script_model.specs.Words.{spaced, option_word, point_words, line_words, pair_words, kind_word, edit_words, line_of};
 
 use crate::words::{push_count_word, push_line, push_option_word, push_point, push_word};
 use std::alloc::Global;

@@ -1,9 +1,9 @@
 // The lines of answers.
 ghost use Rattle.std.specs.Prelude.{◌≡◌, ◌++◌, ◌∷◌, [], OnOk, IfOk, codes, flat_map};
 ghost use Rattle.std.specs.Fmt.{decimal};
-ghost use Rattle.topo_model.specs.RuleWords.{rule_word};
-ghost use Rattle.topo_model.specs.Texts.{reply_text, at_front};
-ghost use Rattle.topo_model.specs.Words.{spaced, element_words};
+ghost use Rattle.script_model.specs.RuleWords.{rule_word};
+ghost use Rattle.script_model.specs.Texts.{reply_text, at_front};
+ghost use Rattle.script_model.specs.Words.{spaced, element_words};
 
 use crate::words::{push_count_word, push_element, push_word};
 use std::alloc::Global;

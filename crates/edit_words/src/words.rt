@@ -1,7 +1,7 @@
 // Words of a line, each after a space.
 ghost use Rattle.std.specs.Prelude.{◌≡◌, ◌++◌, ◌∷◌, [], OnOk, flat_map};
 ghost use Rattle.std.specs.Fmt.{decimal, signed_decimal};
-ghost use Rattle.topo_model.specs.Words.{spaced, option_word, point_words, line_words, dart_word, element_words};
+ghost use Rattle.script_model.specs.Words.{spaced, option_word, point_words, line_words, dart_word, element_words};
 
 use topo_base::{Dart, Element, Grid, Line, Memory, Text};
 use topo_io::{push_count, push_number};

@@ -2,8 +2,8 @@
 use Rattle.std.proofs.Common.{◌≡◌, ℕ, ◌-◌, ◌≤◌, IsTrue, List, ◌++◌, length, drop, Some, None, Result, Err, sym, ap, ◌∙◌, arith, length-append}
 use Rattle.std.proofs.lemmas.List.{drop_at}
 use Rattle.topo_base.specs.declared.edit.Entry.{Entry}
-use Rattle.topo_model.specs.InRange.{is_spelled}
-use Rattle.topo_model.specs.Spelling.{entry_bytes}
+use Rattle.drawing.specs.InRange.{is_spelled}
+use Rattle.history_model.specs.Spelling.{entry_bytes}
 use Rattle.entry_codec.specs.Reading.{entry_at}
 use Rattle.entry_codec.specs.Gives.{Fails, IsInFront}
 use Rattle.entry_codec.specs.declared.ends.CodecEnd.{CodecEnd}

@@ -11,9 +11,9 @@ use Rattle.topo_base.specs.declared.edit.Pair.{Pair}
 use Rattle.topo_base.specs.declared.edit.Edit.{Edit}
 use Rattle.topo_base.specs.declared.edit.Edit.TheVariants.{AddIsoNode, MoveIsoNode, RemoveIsoNode, AddIsoEdge, RemoveIsoEdge, AddEdgeModFace, AddEdgeNewFaces, RemEdgeModFace, RemEdgeNewFace, ModEdgeSplit, NewEdgesSplit, ModEdgeHeal, NewEdgeHeal, AddLayer, CreateTopoGeom, AddElement, RemElement, DropFeature}
 use Rattle.topo_base.specs.declared.edit.Entry.{Entry}
-use Rattle.topo_model.specs.Legal.{is_editor}
-use Rattle.topo_model.specs.InRange.{is_id, is_option_id, is_grid_point, is_pair, is_edit, is_spelled}
-use Rattle.topo_model.specs.Spelling.{number_bytes, point_bytes, option_bytes, line_bytes, pairs_bytes, name_bytes, edit_bytes, entry_bytes}
+use Rattle.drawing.specs.Accepted.{is_editor}
+use Rattle.drawing.specs.InRange.{is_id, is_option_id, is_grid_point, is_pair, is_edit, is_spelled}
+use Rattle.history_model.specs.Spelling.{number_bytes, point_bytes, option_bytes, line_bytes, pairs_bytes, name_bytes, edit_bytes, entry_bytes}
 use Rattle.entry_codec.specs.Reading.{Reads, made, both, number_at, option_at, point_at, is_count_of_line, is_count_of_pairs, line_at, pairs_at, name_at, kind_at, edge_at, three_at, isolated_at, joined_at, feature_at, fields_at, edit_at, editor_at, entry_of, entry_at, whole, entry_in}
 use Rattle.entry_codec.proofs.Loops.{then_read, same_found}
 use Rattle.entry_codec.proofs.Grammar.{IsField, both_field, where_field, made_takes, made_again, number_field}

@@ -12,8 +12,8 @@ use Rattle.topo_base.specs.Point.{Point}
 use Rattle.topo_base.specs.declared.kind.Kind.{Kind}
 use Rattle.topo_base.specs.declared.kind.Kind.TheVariants.{Puntal, Lineal, Areal}
 use Rattle.topo_base.specs.declared.edit.Pair.{Pair}
-use Rattle.topo_model.specs.InRange.{is_id, is_option_id, is_coordinate, is_grid_point, is_pair}
-use Rattle.topo_model.specs.Spelling.{number_bytes, point_bytes, option_bytes, line_bytes, pair_bytes, pairs_bytes, name_bytes}
+use Rattle.drawing.specs.InRange.{is_id, is_option_id, is_coordinate, is_grid_point, is_pair}
+use Rattle.history_model.specs.Spelling.{number_bytes, point_bytes, option_bytes, line_bytes, pair_bytes, pairs_bytes, name_bytes}
 use Rattle.entry_codec.specs.Reading.{Reads, tested, where_good, made, both, many, wide_at, number_at, option_at, point_of, point_at, counted, is_count_of_line, is_count_of_pairs, line_at, pair_of, pair_at, pairs_at, name_at, kind_at}
 use Rattle.entry_codec.proofs.Loops.{then_read, found, same_found, many_length}
 use Rattle.entry_codec.proofs.Grammar.{IsField, both_field, where_field, made_takes, made_again, many_takes, many_again, is_wide, number_field, wide_field}

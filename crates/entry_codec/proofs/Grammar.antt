@@ -6,8 +6,8 @@ use Rattle.std.proofs.lemmas.Bool.{and_parts, and_from}
 use Rattle.std.proofs.lemmas.List.{take_at, drop_at, take-append-drop, length-append, length-take}
 use Rattle.std.proofs.lemmas.Nat.{be_bytes_4, be_bytes_8, from_be_bytes-to_be_bytes_4, from_be_bytes-to_be_bytes_8}
 use Rattle.std.proofs.lemmas.Option.{cond_some}
-use Rattle.topo_model.specs.InRange.{is_id}
-use Rattle.topo_model.specs.Spelling.{number_bytes}
+use Rattle.drawing.specs.InRange.{is_id}
+use Rattle.history_model.specs.Spelling.{number_bytes}
 use Rattle.entry_codec.specs.Reading.{Reads, tested, where_good, made, with_next, both, many, is_byte, wide_at, number_at}
 use Rattle.entry_codec.proofs.Loops.{then_read, found, same_found}
 

@@ -9,9 +9,9 @@ use Rattle.topo_base.specs.declared.edit.Pair.{Pair}
 use Rattle.topo_base.specs.declared.edit.Edit.{Edit}
 use Rattle.topo_base.specs.declared.edit.Edit.TheVariants.{AddIsoNode, MoveIsoNode, RemoveIsoNode, AddIsoEdge, RemoveIsoEdge, AddEdgeModFace, AddEdgeNewFaces, RemEdgeModFace, RemEdgeNewFace, ModEdgeSplit, NewEdgesSplit, ModEdgeHeal, NewEdgeHeal, AddLayer, CreateTopoGeom, AddElement, RemElement, DropFeature}
 use Rattle.topo_base.specs.declared.edit.Entry.{Entry}
-use Rattle.topo_model.specs.Legal.{is_line_short, keeps_limits, is_editor, is_entry}
-use Rattle.topo_model.specs.InRange.{is_option_id, is_in_range}
-use Rattle.topo_model.specs.Spelling.{point_bytes, option_bytes, line_bytes, pair_bytes, pairs_bytes, name_bytes, edit_bytes}
+use Rattle.drawing.specs.Accepted.{is_line_short, keeps_limits, is_editor, is_entry}
+use Rattle.drawing.specs.InRange.{is_option_id, is_in_range}
+use Rattle.history_model.specs.Spelling.{point_bytes, option_bytes, line_bytes, pair_bytes, pairs_bytes, name_bytes, edit_bytes}
 use Rattle.entry_codec.specs.Spelled.{IsShort}
 
 length-points : (line : List Point) → length (flat_map point_bytes line) ≡ 16 * length line

@@ -1,8 +1,8 @@
 -- What a reader of the code answers.
 use Rattle.std.specs.Prelude.{◌≡◌, ℕ, ◌≤◌, IsTrue, List, ◌++◌, length, drop, Option, Some, None, Result, Ok, Err}
 use Rattle.topo_base.specs.declared.edit.Entry.{Entry}
-use Rattle.topo_model.specs.InRange.{is_spelled}
-use Rattle.topo_model.specs.Spelling.{entry_bytes}
+use Rattle.drawing.specs.InRange.{is_spelled}
+use Rattle.history_model.specs.Spelling.{entry_bytes}
 use Rattle.entry_codec.specs.declared.ends.CodecEnd.{CodecEnd}
 use Rattle.entry_codec.specs.declared.ends.CodecEnd.TheVariants.{NoEntry, Memory}
 

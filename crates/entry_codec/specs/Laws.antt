@@ -1,8 +1,8 @@
 -- What the grammar of entries reads.
 use Rattle.std.specs.Prelude.{◌≡◌, ◌↔◌, ℕ, IsTrue, List, ◌++◌, Some}
 use Rattle.topo_base.specs.declared.edit.Entry.{Entry}
-use Rattle.topo_model.specs.InRange.{is_spelled}
-use Rattle.topo_model.specs.Spelling.{entry_bytes}
+use Rattle.drawing.specs.InRange.{is_spelled}
+use Rattle.history_model.specs.Spelling.{entry_bytes}
 use Rattle.entry_codec.specs.Reading.{entry_at, entry_in}
 
 -- an entry is read from bytes exactly where it can be spelled and they are its spelling

@@ -10,8 +10,8 @@ use Rattle.topo_base.specs.declared.edit.Pair.{Pair}
 use Rattle.topo_base.specs.declared.edit.Edit.{Edit}
 use Rattle.topo_base.specs.declared.edit.Edit.TheVariants.{AddIsoNode, MoveIsoNode, RemoveIsoNode, AddIsoEdge, RemoveIsoEdge, AddEdgeModFace, AddEdgeNewFaces, RemEdgeModFace, RemEdgeNewFace, ModEdgeSplit, NewEdgesSplit, ModEdgeHeal, NewEdgeHeal, AddLayer, CreateTopoGeom, AddElement, RemElement, DropFeature}
 use Rattle.topo_base.specs.declared.edit.Entry.{Entry}
-use Rattle.topo_model.specs.Legal.{is_editor}
-use Rattle.topo_model.specs.InRange.{is_grid_point}
+use Rattle.drawing.specs.Accepted.{is_editor}
+use Rattle.drawing.specs.InRange.{is_grid_point}
 
 abbrev pub Reads : Type 0 → Type 0
 Reads A = List ℕ → Option (A × List ℕ)

@@ -1,7 +1,7 @@
 -- How long a spelling is.
 use Rattle.std.specs.Prelude.{ℕ, ◌+◌, ◌*◌, ◌≤◌, length}
 use Rattle.topo_base.specs.declared.edit.Entry.{Entry}
-use Rattle.topo_model.specs.Spelling.{entry_bytes}
+use Rattle.history_model.specs.Spelling.{entry_bytes}
 
 -- an editor, a tag, two ends, a count and 4096 vertices
 abbrev pub most_bytes : ℕ

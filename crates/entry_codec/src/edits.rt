@@ -3,9 +3,9 @@ ghost use Rattle.std.specs.Prelude.{◌≡◌, ◌++◌, ◌∷◌, ◌&&◌, On
 ghost use Rattle.std.specs.List.{list_all};
 ghost use Rattle.topo_base.specs.Names.{is_name};
 ghost use Rattle.topo_base.specs.Kinds.{kind_number};
-ghost use Rattle.topo_model.specs.Legal.{is_line_short, keeps_limits};
-ghost use Rattle.topo_model.specs.InRange.{is_id, is_option_id, is_grid_point, is_pair, is_in_range};
-ghost use Rattle.topo_model.specs.Spelling.{number_bytes, point_bytes, option_bytes, line_bytes, pairs_bytes, name_bytes, edit_bytes};
+ghost use Rattle.drawing.specs.Accepted.{is_line_short, keeps_limits};
+ghost use Rattle.drawing.specs.InRange.{is_id, is_option_id, is_grid_point, is_pair, is_in_range};
+ghost use Rattle.history_model.specs.Spelling.{number_bytes, point_bytes, option_bytes, line_bytes, pairs_bytes, name_bytes, edit_bytes};
 
 use crate::fields::{put_line, put_name, put_number, put_option, put_pairs, put_point};
 use topo_base::{Edit, Grid, Kind, Line, Memory, Name, NodeId, PairList};

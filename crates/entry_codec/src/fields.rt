@@ -3,9 +3,9 @@ ghost use Rattle.std.specs.Prelude.{◌≡◌, ◌≤◌, ◌<◌, ◌^◌, ◌+
 ghost use Rattle.std.specs.Int.{w64, to_be_bytes};
 ghost use Rattle.std.specs.List.{list_all};
 ghost use Rattle.topo_base.specs.Names.{is_name};
-ghost use Rattle.topo_model.specs.Legal.{is_line_short};
-ghost use Rattle.topo_model.specs.InRange.{is_id, is_option_id, is_grid_point, is_pair};
-ghost use Rattle.topo_model.specs.Spelling.{number_bytes, point_bytes, option_bytes, line_bytes, pair_bytes, pairs_bytes, name_bytes};
+ghost use Rattle.drawing.specs.Accepted.{is_line_short};
+ghost use Rattle.drawing.specs.InRange.{is_id, is_option_id, is_grid_point, is_pair};
+ghost use Rattle.history_model.specs.Spelling.{number_bytes, point_bytes, option_bytes, line_bytes, pair_bytes, pairs_bytes, name_bytes};
 
 use topo_base::{Grid, Line, Memory, Name, Pair, PairList};
 

@@ -1,7 +1,7 @@
 ghost use Rattle.std.specs.Prelude.{◌≡◌, ℕ, List, ◌++◌, drop, IsTrue, IfOk};
 ghost use Rattle.topo_base.specs.declared.edit.Entry.{Entry};
-ghost use Rattle.topo_model.specs.InRange.{is_spelled};
-ghost use Rattle.topo_model.specs.Spelling.{entry_bytes};
+ghost use Rattle.drawing.specs.InRange.{is_spelled};
+ghost use Rattle.history_model.specs.Spelling.{entry_bytes};
 ghost use Rattle.entry_codec.specs.Gives.{Gives, IsInFront};
 ghost use Rattle.entry_codec.specs.Reading.{fields_at, edit_at, editor_at, entry_at};
 

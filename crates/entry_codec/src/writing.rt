@@ -1,7 +1,7 @@
 ghost use Rattle.std.specs.Prelude.{◌≡◌, ◌++◌, ◌∷◌, [], OnOk, IfOk, IsTrue};
-ghost use Rattle.topo_model.specs.Legal.{is_entry};
-ghost use Rattle.topo_model.specs.InRange.{is_spelled};
-ghost use Rattle.topo_model.specs.Spelling.{entry_bytes, frame_bytes};
+ghost use Rattle.drawing.specs.Accepted.{is_entry};
+ghost use Rattle.drawing.specs.InRange.{is_spelled};
+ghost use Rattle.history_model.specs.Spelling.{entry_bytes, frame_bytes};
 ghost use Rattle.entry_codec.specs.Spelled.{IsShort};
 
 use crate::edits::put_edit;

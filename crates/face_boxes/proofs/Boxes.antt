@@ -13,13 +13,13 @@ use Rattle.topo_base.specs.declared.rows.Counters.{Counters}
 use Rattle.topo_base.specs.declared.rows.FaceRow.{FaceRow}
 use Rattle.topo_base.specs.declared.write.RowId.TheVariants.{Old}
 use Rattle.topo_base.specs.declared.write.RowWrite.TheVariants.{SetBox}
-use Rattle.topo_model.specs.Drawing.{Drawing, Edge, edge_id_of}
-use Rattle.topo_model.specs.Rows.{has_row, without_row, with_change}
-use Rattle.topo_model.specs.Tables.{Tables, wider, box_at, least_box, has_side, face_box, face_row}
-use Rattle.topo_model.specs.Writable.{CanWriteAll, has_face_row}
-use Rattle.topo_model.specs.Writes.{all_written, face_row_id}
-use Rattle.topo_model.proofs.ListTests.{contains_here, contains_there}
-use Rattle.topo_model.proofs.Ordering.{InOrder, first_of}
+use Rattle.drawing.specs.Drawing.{Drawing, Edge, edge_id_of}
+use Rattle.drawing.specs.Rows.{has_row, without_row, with_change}
+use Rattle.drawing.specs.Tables.{Tables, wider, box_at, least_box, has_side, face_box, face_row}
+use Rattle.drawing.specs.Writable.{CanWriteAll, has_face_row}
+use Rattle.drawing.specs.Writes.{all_written, face_row_id}
+use Rattle.plane.proofs.ListTests.{contains_here, contains_there}
+use Rattle.drawing.proofs.Ordering.{InOrder, first_of}
 use Rattle.face_boxes.specs.Bounds.{grown, is_left_out, box_with, box_write, other_write, without}
 use Rattle.edit_conditions.proofs.IsolatedTests.{has_row-change}
 

@@ -11,19 +11,19 @@ use Rattle.topo_base.specs.declared.rows.Counters.{Counters}
 use Rattle.topo_base.specs.declared.rows.FaceRow.{FaceRow}
 use Rattle.topo_base.specs.declared.write.RowId.TheVariants.{Old}
 use Rattle.topo_base.specs.declared.write.RowWrite.TheVariants.{DropFace}
-use Rattle.topo_model.specs.AddEdge.{Division, divided, divided_edge, divided_side, is_on_left, part_at, part_beside}
-use Rattle.topo_model.specs.Drawing.{Drawing, Edge, has_face}
-use Rattle.topo_model.specs.HalfEdge.{HalfEdge, backward_of, forward_of, half_edges}
-use Rattle.topo_model.specs.Ring.{contains_half_edge, least_vertex, ring_of}
-use Rattle.topo_model.specs.Rows.{has_row, without_row}
-use Rattle.topo_model.specs.Subdivision.{face_id_of}
-use Rattle.topo_model.specs.Tables.{Tables, least_box, has_side, face_box, face_row}
-use Rattle.topo_model.specs.Writable.{CanWriteAll, has_face_row}
-use Rattle.topo_model.specs.Writes.{all_written, face_row_id}
-use Rattle.topo_model.proofs.ListTests.{contains_here, contains_there}
-use Rattle.topo_model.proofs.Members.{ids_within}
-use Rattle.topo_model.proofs.Ordering.{InOrder, InOrder-push, first_of}
-use Rattle.topo_model.proofs.WritesInOrder.{can_write-append, written-append}
+use Rattle.drawing.specs.AddEdge.{Division, divided, divided_edge, divided_side, is_on_left, part_at, part_beside}
+use Rattle.drawing.specs.Drawing.{Drawing, Edge, has_face}
+use Rattle.drawing.specs.HalfEdge.{HalfEdge, backward_of, forward_of, half_edges}
+use Rattle.drawing.specs.Ring.{contains_half_edge, least_vertex, ring_of}
+use Rattle.drawing.specs.Rows.{has_row, without_row}
+use Rattle.drawing.specs.Subdivision.{face_id_of}
+use Rattle.drawing.specs.Tables.{Tables, least_box, has_side, face_box, face_row}
+use Rattle.drawing.specs.Writable.{CanWriteAll, has_face_row}
+use Rattle.drawing.specs.Writes.{all_written, face_row_id}
+use Rattle.plane.proofs.ListTests.{contains_here, contains_there}
+use Rattle.drawing.proofs.Members.{ids_within}
+use Rattle.drawing.proofs.Ordering.{InOrder, InOrder-push, first_of}
+use Rattle.drawing.proofs.WritesInOrder.{can_write-append, written-append}
 use Rattle.face_boxes.specs.Bounds.{box_write}
 use Rattle.face_boxes.proofs.Boxes.{AreRows, beside_same, boxed, boxed_is, boxed_there, box_written, can_box, chosen, chosen_rows, map_same, points_of}
 

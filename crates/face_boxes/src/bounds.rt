@@ -1,8 +1,8 @@
 // The least boxes of faces.
 ghost use Rattle.std.specs.Prelude.{◌≡◌, ◌+◌, ◌≤◌, ◌∷◌, [], length, map};
 ghost use Rattle.std.specs.List.{sum_by};
-ghost use Rattle.topo_model.specs.Places.{rows_of};
-ghost use Rattle.topo_model.specs.Tables.{box_at, drawn, drawn_edge, face_box, has_side, least_box, wider as with_vertex};
+ghost use Rattle.drawing.specs.Places.{rows_of};
+ghost use Rattle.drawing.specs.Tables.{box_at, drawn, drawn_edge, face_box, has_side, least_box, wider as with_vertex};
 ghost use Rattle.face_boxes.specs.Bounds.{box_with, grown, is_left_out, vertices_beside, without};
 ghost use Rattle.edit_conditions.specs.Counted.{point_steps};
 

@@ -4,12 +4,12 @@ use Rattle.std.specs.Prelude.{IsTrue, find, reverse}
 use Rattle.std.specs.List.{list_any}
 use Rattle.std.proofs.lemmas.Bool.{both_ways, eqb-true, eq-eqb, ne_eqb}
 use Rattle.topo_base.specs.Point.{Point}
-use Rattle.topo_model.specs.Line.{segments_of}
-use Rattle.topo_model.specs.Drawing.{Drawing, has_face}
-use Rattle.topo_model.specs.HalfEdge.{forward_of, backward_of}
-use Rattle.topo_model.specs.Faces.{face_at, is_in_face}
-use Rattle.topo_model.specs.Faced.{IsFaced}
-use Rattle.topo_model.proofs.Crossings.{crosses}
+use Rattle.plane.specs.Line.{segments_of}
+use Rattle.drawing.specs.Drawing.{Drawing, has_face}
+use Rattle.drawing.specs.HalfEdge.{forward_of, backward_of}
+use Rattle.drawing.specs.Faces.{face_at, is_in_face}
+use Rattle.drawing.specs.Faced.{IsFaced}
+use Rattle.plane.specs.Crossings.{crosses}
 use Rattle.face_rings.proofs.FaceBorders.{has_plain_lines}
 use Rattle.face_rings.proofs.HalfLines.{HasPlainLines}
 use Rattle.face_rings.proofs.HalvesApart.{forward_there, backward_there}

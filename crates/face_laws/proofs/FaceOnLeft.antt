@@ -2,12 +2,12 @@
 use Rattle.std.proofs.Common.{◌≡◌, refl, sym, ◌∙◌, ap, subst, ⊎_elim, Bool, true, false, cond, List, [], ◌∷◌}
 use Rattle.std.specs.List.{Contains}
 use Rattle.std.proofs.lemmas.Bool.{and_parts, and_from, false≢true}
-use Rattle.topo_model.specs.Drawing.{Drawing}
-use Rattle.topo_model.specs.HalfEdge.{HalfEdge, half_edges, twin}
-use Rattle.topo_model.specs.Segment.{Segment}
+use Rattle.drawing.specs.Drawing.{Drawing}
+use Rattle.drawing.specs.HalfEdge.{HalfEdge, half_edges, twin}
+use Rattle.plane.specs.Segment.{Segment}
 use Rattle.topo_base.specs.Point.{same_point}
-use Rattle.topo_model.proofs.Crossings.{back}
-use Rattle.topo_model.proofs.ListTests.{contains_here, contains_there, contains_cases, contains_none, Decides-any}
+use Rattle.plane.specs.Crossings.{back}
+use Rattle.plane.proofs.ListTests.{contains_here, contains_there, contains_cases, contains_none, Decides-any}
 use Rattle.face_rings.proofs.HalfLines.{HasPlainLines}
 use Rattle.face_rings.proofs.HalvesApart.{twin_there}
 use Rattle.parity_laws.specs.Rings.{In}

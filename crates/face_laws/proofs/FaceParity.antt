@@ -2,17 +2,19 @@
 use Rattle.std.proofs.Common.{◌≡◌, ℕ, refl, sym, ◌∙◌, ap, Bool, true, false, cond, List, [], ◌∷◌, ◌++◌, eqb}
 use Rattle.std.specs.Prelude.{flat_map, filter, reverse}
 use Rattle.std.specs.List.{Contains}
-use Rattle.topo_model.proofs.ListTests.{contains_here, contains_there}
+use Rattle.plane.proofs.ListTests.{contains_here, contains_there}
 use Rattle.topo_base.specs.Point.{Point}
 use Rattle.topo_base.specs.RationalPoint.{RationalPoint}
-use Rattle.topo_model.specs.Segment.{Segment}
-use Rattle.topo_model.specs.Line.{segments_of}
-use Rattle.topo_model.specs.Drawing.{Drawing, Edge}
-use Rattle.topo_model.specs.HalfEdge.{HalfEdge, both_ways}
-use Rattle.topo_model.specs.RationalTests.{is_odd_over_at, is_in_face_at}
-use Rattle.topo_model.specs.Faces.{xor, is_border, is_odd_over, is_in_face}
-use Rattle.topo_model.proofs.Crossings.{back, over, over_at, crosses, crosses_at}
-use Rattle.topo_model.proofs.ParityStaying.{over_is, over_point_is}
+use Rattle.plane.specs.Segment.{Segment}
+use Rattle.plane.specs.Line.{segments_of}
+use Rattle.drawing.specs.Drawing.{Drawing, Edge}
+use Rattle.drawing.specs.HalfEdge.{HalfEdge, both_ways}
+use Rattle.plane.specs.RationalTests.{is_odd_over_at}
+use Rattle.drawing.specs.DrawnPoints.{is_in_face_at}
+use Rattle.plane.specs.Parity.{xor, is_odd_over}
+use Rattle.drawing.specs.Faces.{is_border, is_in_face}
+use Rattle.plane.specs.Crossings.{back, over, over_at, crosses, crosses_at}
+use Rattle.plane.proofs.ParityStaying.{over_is, over_point_is}
 use Rattle.parity_laws.specs.Steps.{odd, above, above_at}
 use Rattle.parity_laws.specs.Rings.{those, of_face}
 use Rattle.parity_laws.proofs.Sums.{odd_append, xor_comm, summing}

@@ -5,16 +5,16 @@ use Rattle.std.specs.List.{Contains}
 use Rattle.std.proofs.lemmas.Bool.{eqb-true, eq-eqb}
 use Rattle.topo_base.specs.RationalPoint.{RationalPoint}
 use Rattle.topo_base.specs.declared.rows.NodeRow.{NodeRow}
-use Rattle.topo_model.specs.Segment.{Segment}
-use Rattle.topo_model.specs.Line.{segments_of}
-use Rattle.topo_model.specs.Drawing.{Drawing, Edge, has_face}
-use Rattle.topo_model.specs.HalfEdge.{half_edges}
-use Rattle.topo_model.specs.Faces.{face_at}
-use Rattle.topo_model.specs.Faced.{IsFaced, IsInside, Sees, is_in}
-use Rattle.topo_model.specs.RationalTests.{IsLeftOf, IsRightOf, area_at}
-use Rattle.topo_model.proofs.Collinear.{on_round}
-use Rattle.topo_model.proofs.Crossings.{back, crosses_at}
-use Rattle.topo_model.proofs.Ring.{multiplied, signed}
+use Rattle.plane.specs.Segment.{Segment}
+use Rattle.plane.specs.Line.{segments_of}
+use Rattle.drawing.specs.Drawing.{Drawing, Edge, has_face}
+use Rattle.drawing.specs.HalfEdge.{half_edges}
+use Rattle.drawing.specs.Faces.{face_at}
+use Rattle.drawing.specs.Faced.{IsFaced, IsInside, Sees, is_in}
+use Rattle.plane.specs.RationalTests.{IsLeftOf, IsRightOf, area_at}
+use Rattle.plane.proofs.Collinear.{on_round}
+use Rattle.plane.specs.Crossings.{back, crosses_at}
+use Rattle.plane.proofs.Ring.{multiplied, signed}
 use Rattle.parity_laws.specs.Steps.{above_at}
 use Rattle.parity_laws.specs.Rings.{In, those, Drawn, Ringwise, of_face}
 use Rattle.parity_laws.proofs.Larger.{one_face_at}

@@ -4,12 +4,12 @@ use Rattle.std.specs.List.{Contains}
 use Rattle.std.proofs.lemmas.Bool.{cases_lt, false≢true}
 use Rattle.std.proofs.lemmas.Option.{slice_get_within, slice_get-get_or}
 use Rattle.topo_base.specs.Point.{Point}
-use Rattle.topo_model.specs.Drawing.{Drawing}
-use Rattle.topo_model.specs.HalfEdge.{HalfEdge, half_edges}
-use Rattle.topo_model.specs.Line.{segments_of}
-use Rattle.topo_model.specs.Segment.{Segment}
-use Rattle.topo_model.specs.Star.{next_of}
-use Rattle.topo_model.proofs.Crossings.{back}
+use Rattle.drawing.specs.Drawing.{Drawing}
+use Rattle.drawing.specs.HalfEdge.{HalfEdge, half_edges}
+use Rattle.plane.specs.Line.{segments_of}
+use Rattle.plane.specs.Segment.{Segment}
+use Rattle.drawing.specs.Star.{next_of}
+use Rattle.plane.specs.Crossings.{back}
 use Rattle.face_rings.proofs.HalfLines.{HasPlainLines}
 use Rattle.face_rings.proofs.HalvesApart.{half_of, line_of}
 use Rattle.face_rings.proofs.NextApart.{next_there}

@@ -4,9 +4,9 @@ use Rattle.std.specs.Prelude.{IsTrue}
 use Rattle.std.specs.List.{list_any}
 use Rattle.std.proofs.lemmas.Bool.{and_parts, and_from, or_left, or_right, or_cases, eqb-true, eq-eqb, ne_eqb}
 use Rattle.topo_base.specs.RationalPoint.{RationalPoint}
-use Rattle.topo_model.specs.Drawing.{Drawing, has_face}
-use Rattle.topo_model.specs.RationalTests.{is_in_face_at}
-use Rattle.topo_model.specs.Faced.{is_in_other, is_in}
+use Rattle.drawing.specs.Drawing.{Drawing, has_face}
+use Rattle.drawing.specs.DrawnPoints.{is_in_face_at}
+use Rattle.drawing.specs.Faced.{is_in_other, is_in}
 
 -- g is the one face that has q
 abbrev pub IsOnlyIn : Drawing → RationalPoint → ℕ → Type 0

@@ -4,17 +4,17 @@ use Rattle.std.specs.List.{Contains}
 use Rattle.std.proofs.lemmas.Bool.{and_parts, cases_eq}
 use Rattle.topo_base.specs.Point.{Point}
 use Rattle.topo_base.specs.RationalPoint.{rational, IsAt}
-use Rattle.topo_model.specs.Direction.{Direction}
-use Rattle.topo_model.specs.Drawing.{Drawing, is_end_of}
-use Rattle.topo_model.specs.HalfEdge.{HalfEdge, forward_of, backward_of, half_edges, twin}
-use Rattle.topo_model.specs.Line.{segments_of, first_vertex, last_vertex}
-use Rattle.topo_model.specs.Relation.{SameCoordinates}
-use Rattle.topo_model.specs.RationalTests.{IsOn}
-use Rattle.topo_model.specs.Segment.{Segment}
-use Rattle.topo_model.proofs.Collinear.{at_point}
-use Rattle.topo_model.proofs.Crossings.{back}
-use Rattle.topo_model.proofs.ListTests.{some_same}
-use Rattle.topo_model.proofs.PlainSplits.{one_point}
+use Rattle.plane.specs.Direction.{Direction}
+use Rattle.drawing.specs.Drawing.{Drawing, is_end_of}
+use Rattle.drawing.specs.HalfEdge.{HalfEdge, forward_of, backward_of, half_edges, twin}
+use Rattle.plane.specs.Line.{segments_of, first_vertex, last_vertex}
+use Rattle.plane.specs.Relation.{SameCoordinates}
+use Rattle.plane.specs.RationalTests.{IsOn}
+use Rattle.plane.specs.Segment.{Segment}
+use Rattle.plane.proofs.Collinear.{at_point}
+use Rattle.plane.specs.Crossings.{back}
+use Rattle.plane.proofs.ListTests.{some_same}
+use Rattle.drawing.proofs.PlainSplits.{one_point}
 use Rattle.face_rings.proofs.HalfLines.{HasPlainLines}
 use Rattle.face_rings.proofs.HalvesApart.{IsHalf, half_of, line_of, one_edge}
 use Rattle.ring_laws.proofs.Turning.{twin_twin}

@@ -1,9 +1,9 @@
 -- A direction strictly inside a wedge is nearer, clockwise from its begin, than its end.
 use Rattle.std.proofs.Common.{◌≡◌, refl, sym, ◌∙◌, ap, ⊎_elim, Bool, true, false, cond, ◌&&◌, ◌||◌}
 use Rattle.std.proofs.lemmas.Bool.{and_parts, or_cases, both_ways, false_from_ne_true, eq-eqb}
-use Rattle.topo_model.specs.Direction.{Direction, cross, quarter, nearer_by, is_nearer, same_direction, straight_up, IsNotZero, OneDirection}
-use Rattle.topo_model.proofs.Directions.{nearer_onward, nearer_total, nearer_cyclic, same_out, same_in, one_turned, quarter_of_one}
-use Rattle.topo_model.proofs.Wedges.{apart_nearer, before_before}
+use Rattle.plane.specs.Direction.{Direction, cross, quarter, nearer_by, is_nearer, same_direction, straight_up, IsNotZero, OneDirection}
+use Rattle.plane.proofs.Directions.{nearer_onward, nearer_total, nearer_cyclic, same_out, same_in, one_turned, quarter_of_one}
+use Rattle.plane.proofs.Wedges.{apart_nearer, before_before}
 use Rattle.parity_laws.specs.Steps.{before}
 use Rattle.parity_laws.specs.Ways.{inside}
 use Rattle.face_laws.proofs.Mirror.{mirrored, mirrored_some, one_mirrored, before_is, nearer_mirrored}

@@ -9,21 +9,21 @@ use Rattle.std.proofs.lemmas.Option.{slice_get_within, slice_get-get_or}
 use Rattle.std.proofs.lemmas.Bool.Decides.{Decides-not}
 use Rattle.topo_base.specs.Point.{Point, same_point}
 use Rattle.topo_base.specs.RationalPoint.{RationalPoint, IsAt}
-use Rattle.topo_model.specs.Direction.{Direction, direction_to, cross, IsNotZero}
-use Rattle.topo_model.specs.Segment.{Segment}
-use Rattle.topo_model.specs.Line.{segments_of, first_vertex, last_vertex, is_proper}
-use Rattle.topo_model.specs.Plain.{IsSimpleLine}
-use Rattle.topo_model.specs.Relation.{IsEnd}
-use Rattle.topo_model.specs.RationalTests.{IsOn}
-use Rattle.topo_model.proofs.Collinear.{on_round}
-use Rattle.topo_model.proofs.Crossings.{back}
-use Rattle.topo_model.proofs.Directions.{length_positive}
-use Rattle.topo_model.proofs.LineCuts.{last_ends}
-use Rattle.topo_model.proofs.ListTests.{some_same, all_at}
-use Rattle.topo_model.proofs.PointTests.{Decides-same_point}
-use Rattle.topo_model.proofs.Ring.{multiplied, signed}
-use Rattle.topo_model.proofs.SegmentParts.{start_on, end_on}
-use Rattle.topo_model.proofs.SimpleTests.{before_it, first_begins}
+use Rattle.plane.specs.Direction.{Direction, direction_to, cross, IsNotZero}
+use Rattle.plane.specs.Segment.{Segment}
+use Rattle.plane.specs.Line.{segments_of, first_vertex, last_vertex, is_proper}
+use Rattle.plane.specs.SimpleLine.{IsSimpleLine}
+use Rattle.plane.specs.Relation.{IsEnd}
+use Rattle.plane.specs.RationalTests.{IsOn}
+use Rattle.plane.proofs.Collinear.{on_round}
+use Rattle.plane.specs.Crossings.{back}
+use Rattle.plane.proofs.Directions.{length_positive}
+use Rattle.plane.proofs.LineCuts.{last_ends}
+use Rattle.plane.proofs.ListTests.{some_same, all_at}
+use Rattle.plane.proofs.PointTests.{Decides-same_point}
+use Rattle.plane.proofs.Ring.{multiplied, signed}
+use Rattle.plane.proofs.SegmentParts.{start_on, end_on}
+use Rattle.plane.proofs.SimpleTests.{before_it, first_begins}
 use Rattle.face_rings.proofs.Inside.{IsInside, inside_both}
 use Rattle.parity_laws.specs.Rings.{In, Once}
 use Rattle.face_laws.proofs.Lists.{once_placed, in_front, in_behind}

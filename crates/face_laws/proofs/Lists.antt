@@ -2,10 +2,10 @@
 use Rattle.std.proofs.Common.{◌≡◌, ℕ, suc, refl, sym, subst, arith, ◌⊎◌, inl, inr, ⊎_elim, List, [], ◌∷◌, ◌++◌, slice_get, Some}
 use Rattle.std.specs.Prelude.{flat_map}
 use Rattle.std.specs.List.{Contains}
-use Rattle.topo_model.specs.Segment.{Segment}
-use Rattle.topo_model.proofs.ListTests.{contains_here, contains_there, contains_cases, contains_none}
-use Rattle.topo_model.proofs.LineCuts.{place_of, at_place}
-use Rattle.topo_model.proofs.Members.{Pairwise}
+use Rattle.plane.specs.Segment.{Segment}
+use Rattle.plane.proofs.ListTests.{contains_here, contains_there, contains_cases, contains_none}
+use Rattle.plane.proofs.LineCuts.{place_of, at_place}
+use Rattle.drawing.proofs.Members.{Pairwise}
 use Rattle.parity_laws.specs.Rings.{In, Once}
 
 -- ---- membership

@@ -3,10 +3,10 @@ use Rattle.std.proofs.Common.{◌≡◌, ℕ, refl, sym, ◌∙◌, ap, subst, a
 use Rattle.std.specs.Prelude.{neg_ℤ, int_lt, ◌==◌, if◌then◌else◌}
 use Rattle.std.proofs.Math.IntN.{*ℤ-zero, zero-*ℤ}
 use Rattle.std.proofs.lemmas.Bool.{false≢true}
-use Rattle.topo_model.specs.Direction.{Direction, cross, dot, quarter, nearer_by, is_nearer, straight_up, IsNotZero, OneDirection}
-use Rattle.topo_model.proofs.Directions.{quarter_by, to_right, to_left, behind, in_front, by_quarter}
-use Rattle.topo_model.proofs.Ring.{multiplied, signed}
-use Rattle.topo_model.proofs.Signs.{order, mul_positive, times_one}
+use Rattle.plane.specs.Direction.{Direction, cross, dot, quarter, nearer_by, is_nearer, straight_up, IsNotZero, OneDirection}
+use Rattle.plane.proofs.Directions.{quarter_by, to_right, to_left, behind, in_front, by_quarter}
+use Rattle.plane.proofs.Ring.{multiplied, signed}
+use Rattle.plane.proofs.Signs.{order, mul_positive, times_one}
 use Rattle.parity_laws.specs.Steps.{rightward, first_of, before}
 use Rattle.parity_laws.proofs.Tests.{lt_yes, lt_no}
 

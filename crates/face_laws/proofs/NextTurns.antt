@@ -6,18 +6,18 @@ use Rattle.std.proofs.lemmas.Bool.{both_ways, false_from_ne_true}
 use Rattle.topo_base.specs.Point.{Point}
 use Rattle.topo_base.specs.RationalPoint.{rational}
 use Rattle.topo_base.specs.declared.rows.NodeRow.{NodeRow}
-use Rattle.topo_model.specs.Direction.{is_nearer}
-use Rattle.topo_model.specs.Drawing.{Drawing}
-use Rattle.topo_model.specs.HalfEdge.{HalfEdge, half_edges, twin}
-use Rattle.topo_model.specs.Line.{segments_of, first_vertex, last_vertex}
-use Rattle.topo_model.specs.Relation.{SameCoordinates}
-use Rattle.topo_model.specs.RationalTests.{IsOn}
-use Rattle.topo_model.specs.Segment.{Segment}
-use Rattle.topo_model.specs.Star.{leaving, next_of}
-use Rattle.topo_model.proofs.LineCuts.{last_ends}
-use Rattle.topo_model.proofs.LineTurns.{first-reverse}
-use Rattle.topo_model.proofs.PlainSplits.{one_point, point_id}
-use Rattle.topo_model.proofs.SimpleTests.{first_begins}
+use Rattle.plane.specs.Direction.{is_nearer}
+use Rattle.drawing.specs.Drawing.{Drawing}
+use Rattle.drawing.specs.HalfEdge.{HalfEdge, half_edges, twin}
+use Rattle.plane.specs.Line.{segments_of, first_vertex, last_vertex}
+use Rattle.plane.specs.Relation.{SameCoordinates}
+use Rattle.plane.specs.RationalTests.{IsOn}
+use Rattle.plane.specs.Segment.{Segment}
+use Rattle.drawing.specs.Star.{leaving, next_of}
+use Rattle.plane.proofs.LineCuts.{last_ends}
+use Rattle.plane.proofs.LineTurns.{first-reverse}
+use Rattle.drawing.proofs.PlainSplits.{one_point, point_id}
+use Rattle.plane.proofs.SimpleTests.{first_begins}
 use Rattle.face_rings.proofs.HalfLines.{HasPlainLines}
 use Rattle.face_rings.proofs.HalvesApart.{half_of, line_of, twin_there, one_start, directions_differ}
 use Rattle.face_rings.proofs.NextApart.{next_there, next_from, leaving_not_zero}

@@ -6,16 +6,16 @@ use Rattle.std.proofs.lemmas.Bool.{and_parts, cases_eq, false≢true}
 use Rattle.topo_base.specs.Point.{Point}
 use Rattle.topo_base.specs.RationalPoint.{RationalPoint, IsAt}
 use Rattle.topo_base.specs.declared.rows.NodeRow.{NodeRow}
-use Rattle.topo_model.specs.Drawing.{Drawing, Edge, edge_id_of, is_end_of}
-use Rattle.topo_model.specs.HalfEdge.{HalfEdge, forward_of, backward_of, both_ways, half_edges, twin}
-use Rattle.topo_model.specs.Line.{segments_of, first_vertex, last_vertex}
-use Rattle.topo_model.specs.Relation.{IsEnd, SameCoordinates}
-use Rattle.topo_model.specs.RationalTests.{IsOn}
-use Rattle.topo_model.specs.Segment.{Segment}
-use Rattle.topo_model.proofs.Crossings.{back}
-use Rattle.topo_model.proofs.ListTests.{some_same, contains_cases}
-use Rattle.topo_model.proofs.Members.{Pairwise, ids_differ}
-use Rattle.topo_model.proofs.PlainSplits.{one_point}
+use Rattle.drawing.specs.Drawing.{Drawing, Edge, edge_id_of, is_end_of}
+use Rattle.drawing.specs.HalfEdge.{HalfEdge, forward_of, backward_of, both_ways, half_edges, twin}
+use Rattle.plane.specs.Line.{segments_of, first_vertex, last_vertex}
+use Rattle.plane.specs.Relation.{IsEnd, SameCoordinates}
+use Rattle.plane.specs.RationalTests.{IsOn}
+use Rattle.plane.specs.Segment.{Segment}
+use Rattle.plane.specs.Crossings.{back}
+use Rattle.plane.proofs.ListTests.{some_same, contains_cases}
+use Rattle.drawing.proofs.Members.{Pairwise, ids_differ}
+use Rattle.drawing.proofs.PlainSplits.{one_point}
 use Rattle.face_rings.proofs.HalfLines.{HasPlainLines, forward_line}
 use Rattle.face_rings.proofs.HalvesApart.{half_of, line_of, twin_there, one_edge}
 use Rattle.parity_laws.specs.Ways.{Tied}

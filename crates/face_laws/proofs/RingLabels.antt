@@ -4,13 +4,13 @@ use Rattle.std.specs.List.{Contains}
 use Rattle.std.proofs.lemmas.Bool.{cases_eq, false_from_ne_true}
 use Rattle.std.proofs.lemmas.Option.{slice_get_within, slice_get-get_or}
 use lib.Dec.{eqb}
-use Rattle.topo_model.specs.Drawing.{Drawing}
-use Rattle.topo_model.specs.HalfEdge.{HalfEdge, half_edges, same_half_edge, dart_of}
-use Rattle.topo_model.specs.Line.{segments_of, no_point}
-use Rattle.topo_model.specs.Ring.{walk, ring_of, contains_half_edge}
-use Rattle.topo_model.specs.Segment.{Segment}
-use Rattle.topo_model.specs.Star.{next_of}
-use Rattle.topo_model.proofs.ListTests.{some_same, contains_here, contains_cases, contains_none, Decides-any}
+use Rattle.drawing.specs.Drawing.{Drawing}
+use Rattle.drawing.specs.HalfEdge.{HalfEdge, half_edges, same_half_edge, dart_of}
+use Rattle.plane.specs.Line.{segments_of, no_point}
+use Rattle.drawing.specs.Ring.{walk, ring_of, contains_half_edge}
+use Rattle.plane.specs.Segment.{Segment}
+use Rattle.drawing.specs.Star.{next_of}
+use Rattle.plane.proofs.ListTests.{some_same, contains_here, contains_cases, contains_none, Decides-any}
 use Rattle.face_rings.specs.FaceBorder.{HasRings}
 use Rattle.face_rings.proofs.FaceBorders.{has_plain_lines, half_by_dart}
 use Rattle.face_rings.proofs.HalfLines.{HasPlainLines}

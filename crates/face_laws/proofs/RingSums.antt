@@ -3,14 +3,14 @@ use Rattle.std.proofs.Common.{◌≡◌, ℕ, suc, ◌<◌, refl, sym, ◌∙◌
 use Rattle.std.specs.List.{Contains}
 use Rattle.topo_base.specs.Point.{Point}
 use Rattle.topo_base.specs.declared.ids.Dart.{Dart}
-use Rattle.topo_model.specs.Drawing.{Drawing}
-use Rattle.topo_model.specs.Faces.{is_odd_over}
-use Rattle.topo_model.specs.HalfEdge.{HalfEdge, half_edges, dart_of}
-use Rattle.topo_model.specs.Ring.{ring_of, ring_segments}
-use Rattle.topo_model.specs.Segment.{Segment}
-use Rattle.topo_model.proofs.Crossings.{crosses}
-use Rattle.topo_model.proofs.ListTests.{contains_cases, contains_none}
-use Rattle.topo_model.proofs.Members.{Pairwise}
+use Rattle.drawing.specs.Drawing.{Drawing}
+use Rattle.plane.specs.Parity.{is_odd_over}
+use Rattle.drawing.specs.HalfEdge.{HalfEdge, half_edges, dart_of}
+use Rattle.drawing.specs.Ring.{ring_of, ring_segments}
+use Rattle.plane.specs.Segment.{Segment}
+use Rattle.plane.specs.Crossings.{crosses}
+use Rattle.plane.proofs.ListTests.{contains_cases, contains_none}
+use Rattle.drawing.proofs.Members.{Pairwise}
 use Rattle.face_rings.specs.FaceBorder.{face_border, HasRings}
 use Rattle.face_rings.specs.RingLaw.{IsRingFrom}
 use Rattle.face_rings.proofs.Dividing.{ring_is_ring}

@@ -5,12 +5,12 @@ use Rattle.std.specs.List.{Contains}
 use Rattle.std.proofs.lemmas.Bool.{false≢true}
 use Rattle.std.proofs.lemmas.List.{append-nil, length-map}
 use Rattle.std.proofs.lemmas.Option.{slice_get-get_or}
-use Rattle.topo_model.specs.Drawing.{Drawing}
-use Rattle.topo_model.specs.HalfEdge.{HalfEdge, half_edges, same_half_edge, dart_of}
-use Rattle.topo_model.specs.Line.{segments_of, no_point}
-use Rattle.topo_model.specs.Ring.{walk, ring_of, ring_segments}
-use Rattle.topo_model.specs.Segment.{Segment}
-use Rattle.topo_model.specs.Star.{next_of}
+use Rattle.drawing.specs.Drawing.{Drawing}
+use Rattle.drawing.specs.HalfEdge.{HalfEdge, half_edges, same_half_edge, dart_of}
+use Rattle.plane.specs.Line.{segments_of, no_point}
+use Rattle.drawing.specs.Ring.{walk, ring_of, ring_segments}
+use Rattle.plane.specs.Segment.{Segment}
+use Rattle.drawing.specs.Star.{next_of}
 use Rattle.face_rings.specs.FaceBorder.{is_beside, beside, border_dart, face_border, HasRings}
 use Rattle.face_rings.proofs.FaceBorders.{has_plain_lines, half_by_dart, in_beside, has_half, border_linked}
 use Rattle.face_rings.proofs.HalfLines.{HasPlainLines}

@@ -3,12 +3,12 @@ use Rattle.std.proofs.Common.{◌≡◌, ℕ, zero, suc, refl, sym, ◌∙◌, a
 use Rattle.std.specs.Prelude.{filter}
 use Rattle.std.specs.List.{Contains}
 use Rattle.topo_base.specs.declared.ids.Dart.{Dart}
-use Rattle.topo_model.specs.Drawing.{Drawing}
-use Rattle.topo_model.specs.HalfEdge.{HalfEdge, half_edges, same_half_edge, dart_of}
-use Rattle.topo_model.specs.Ring.{walk, ring_of}
-use Rattle.topo_model.specs.Star.{next_of}
-use Rattle.topo_model.specs.Subdivision.{begins_ring}
-use Rattle.topo_model.proofs.Members.{contains-map, contains-mapped, contains-filter, contains-filtered}
+use Rattle.drawing.specs.Drawing.{Drawing}
+use Rattle.drawing.specs.HalfEdge.{HalfEdge, half_edges, same_half_edge, dart_of}
+use Rattle.drawing.specs.Ring.{walk, ring_of}
+use Rattle.drawing.specs.Star.{next_of}
+use Rattle.drawing.specs.Subdivision.{begins_ring}
+use Rattle.drawing.proofs.Members.{contains-map, contains-mapped, contains-filter, contains-filtered}
 use Rattle.face_rings.specs.FaceBorder.{beside, rings_beside, face_border, HasRings}
 use Rattle.face_rings.specs.RingLaw.{IsInOne}
 use Rattle.face_rings.specs.Rings.{rings}

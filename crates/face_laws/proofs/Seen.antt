@@ -5,19 +5,20 @@ use Rattle.std.specs.List.{Contains}
 use Rattle.std.proofs.Math.IntN.{zero-*ℤ}
 use Rattle.topo_base.specs.Point.{Point}
 use Rattle.topo_base.specs.RationalPoint.{RationalPoint, rational, IsAt, SamePoint, IsBetween}
-use Rattle.topo_model.proofs.Diff.{diff-same}
-use Rattle.topo_model.proofs.Ring.{multiplied, signed}
-use Rattle.topo_model.proofs.Wide.{summed}
-use Rattle.topo_model.proofs.Signs.{order, no_zero_divisor, times_one}
-use Rattle.topo_model.specs.Segment.{Segment}
-use Rattle.topo_model.specs.Line.{segments_of}
-use Rattle.topo_model.specs.Drawing.{Drawing, Edge}
-use Rattle.topo_model.specs.Faced.{Sees, IsInside}
-use Rattle.topo_model.specs.RationalTests.{IsOn, IsOnWay, IsOnEdge, IsLeftOf, area_at}
-use Rattle.topo_model.specs.Relation.{AreApart}
-use Rattle.topo_model.proofs.Collinear.{on_round}
-use Rattle.topo_model.proofs.Crossings.{back, way, larger_spot}
-use Rattle.topo_model.proofs.LineTurns.{reverse_on}
+use Rattle.plane.proofs.Diff.{diff-same}
+use Rattle.plane.proofs.Ring.{multiplied, signed}
+use Rattle.plane.proofs.Wide.{summed}
+use Rattle.plane.proofs.Signs.{order, no_zero_divisor, times_one}
+use Rattle.plane.specs.Segment.{Segment}
+use Rattle.plane.specs.Line.{segments_of}
+use Rattle.drawing.specs.Drawing.{Drawing, Edge}
+use Rattle.drawing.specs.Faced.{Sees, IsInside}
+use Rattle.plane.specs.RationalTests.{IsOn, IsOnWay, IsLeftOf, area_at}
+use Rattle.drawing.specs.DrawnPoints.{IsOnEdge}
+use Rattle.plane.specs.Relation.{AreApart}
+use Rattle.plane.proofs.Collinear.{on_round}
+use Rattle.plane.specs.Crossings.{back, way, larger_spot}
+use Rattle.plane.proofs.LineTurns.{reverse_on}
 use Rattle.parity_laws.specs.Ways.{Tied, Meets, Fork}
 use Rattle.parity_laws.specs.Rings.{In, Plain, SeesLeftAt}
 use Rattle.parity_laws.proofs.Forks.{fork_only}

@@ -1,10 +1,10 @@
 -- The test of a ring for a shell is the parity of its own steps on its left.
 use Rattle.std.proofs.Common.{◌≡◌, refl, sym, ◌∙◌, subst, inl, true}
 use Rattle.std.specs.List.{Contains}
-use Rattle.topo_model.specs.Drawing.{Drawing}
-use Rattle.topo_model.specs.HalfEdge.{HalfEdge, half_edges}
-use Rattle.topo_model.specs.Ring.{ring_of, ring_segments, is_shell}
-use Rattle.topo_model.specs.Segment.{Segment}
+use Rattle.drawing.specs.Drawing.{Drawing}
+use Rattle.drawing.specs.HalfEdge.{HalfEdge, half_edges}
+use Rattle.drawing.specs.Ring.{ring_of, ring_segments, is_shell}
+use Rattle.plane.specs.Segment.{Segment}
 use Rattle.face_rings.specs.FaceBorder.{HasRings}
 use Rattle.face_rings.proofs.FaceBorders.{has_plain_lines}
 use Rattle.parity_laws.specs.Steps.{left}

@@ -4,14 +4,14 @@ use Rattle.std.specs.Prelude.{filter, count_by, if◌then◌else◌}
 use Rattle.std.specs.List.{list_any, Contains}
 use Rattle.std.proofs.lemmas.Bool.{and_parts, and_from, both_ways, false_from_ne_true, eqb-true, eq-eqb}
 use Rattle.std.proofs.lemmas.List.Sums.{sum_by-cons}
-use Rattle.topo_model.specs.Drawing.{Drawing, edge_id_of, has_face}
-use Rattle.topo_model.specs.HalfEdge.{HalfEdge, half_edges}
-use Rattle.topo_model.specs.Ring.{ring_of, is_shell}
-use Rattle.topo_model.specs.Segment.{Segment}
-use Rattle.topo_model.specs.Subdivision.{begins_ring, rings, is_shell_of, faces_have_shells}
-use Rattle.topo_model.proofs.BlockedTests.{all_from}
-use Rattle.topo_model.proofs.ListTests.{contains_here, contains_there, contains_cases, contains_none, Decides-any, Decides-all}
-use Rattle.topo_model.proofs.Members.{Pairwise, pairwise-filter, ids_differ}
+use Rattle.drawing.specs.Drawing.{Drawing, edge_id_of, has_face}
+use Rattle.drawing.specs.HalfEdge.{HalfEdge, half_edges}
+use Rattle.drawing.specs.Ring.{ring_of, is_shell}
+use Rattle.plane.specs.Segment.{Segment}
+use Rattle.drawing.specs.Subdivision.{begins_ring, rings, is_shell_of, faces_have_shells}
+use Rattle.plane.proofs.LineTests.{all_from}
+use Rattle.plane.proofs.ListTests.{contains_here, contains_there, contains_cases, contains_none, Decides-any, Decides-all}
+use Rattle.drawing.proofs.Members.{Pairwise, pairwise-filter, ids_differ}
 use Rattle.face_rings.specs.FaceBorder.{HasRings}
 use Rattle.face_rings.proofs.FaceBorders.{has_plain_lines}
 use Rattle.parity_laws.specs.Steps.{left}

@@ -3,10 +3,10 @@ use Rattle.std.proofs.Common.{◌≡◌, refl, sym, subst, ◌⊎◌, inl, inr, 
 use Rattle.std.specs.Prelude.{reverse}
 use Rattle.std.specs.List.{Contains}
 use Rattle.std.proofs.lemmas.List.Elements.{Contains-append_left, Contains-append_right, Contains-append_cases}
-use Rattle.topo_model.specs.Segment.{Segment}
-use Rattle.topo_model.specs.Line.{segments_of}
-use Rattle.topo_model.specs.Drawing.{Edge}
-use Rattle.topo_model.proofs.ListTests.{contains_here, contains_there, contains_cases, contains_none}
+use Rattle.plane.specs.Segment.{Segment}
+use Rattle.plane.specs.Line.{segments_of}
+use Rattle.drawing.specs.Drawing.{Edge}
+use Rattle.plane.proofs.ListTests.{contains_here, contains_there, contains_cases, contains_none}
 use Rattle.parity_laws.specs.Steps.{odd}
 use Rattle.parity_laws.specs.Rings.{In, those}
 use Rattle.face_laws.proofs.FaceParity.{walked}

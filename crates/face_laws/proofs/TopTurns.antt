@@ -6,11 +6,11 @@ use Rattle.std.specs.Ordering.{int_eq}
 use Rattle.std.proofs.lemmas.Bool.{and_parts, and_from, or_cases, or_left, or_right, both_ways, false_from_ne_true}
 use Rattle.std.proofs.lemmas.Bool.Decides.{Decides-int_eq}
 use Rattle.topo_base.specs.Point.{Point, same_point}
-use Rattle.topo_model.specs.Direction.{in_wedge, straight_up}
-use Rattle.topo_model.specs.Ring.{is_higher, higher_of, top_of, turns_below, is_hole_walk}
-use Rattle.topo_model.specs.Segment.{Segment}
-use Rattle.topo_model.proofs.Crossings.{back}
-use Rattle.topo_model.proofs.Ring.{signed}
+use Rattle.plane.specs.Direction.{in_wedge, straight_up}
+use Rattle.plane.specs.ClosedWalk.{is_higher, higher_of, top_of, turns_below, is_hole_walk}
+use Rattle.plane.specs.Segment.{Segment}
+use Rattle.plane.specs.Crossings.{back}
+use Rattle.plane.proofs.Ring.{signed}
 use Rattle.parity_laws.specs.Steps.{direction, before, left}
 use Rattle.parity_laws.specs.Walks.{NoHigher}
 use Rattle.parity_laws.specs.Ways.{Apart, Outside}

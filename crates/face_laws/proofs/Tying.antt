@@ -3,14 +3,14 @@ use Rattle.std.proofs.Common.{◌≡◌, ◌≢◌, refl, sym, ◌∙◌, ap, �
 use Rattle.std.proofs.lemmas.Bool.{both_ways}
 use Rattle.topo_base.specs.Point.{Point, same_point}
 use Rattle.topo_base.specs.RationalPoint.{RationalPoint, rational, IsAt, SamePoint}
-use Rattle.topo_model.specs.Segment.{Segment}
-use Rattle.topo_model.specs.Relation.{IsEnd}
-use Rattle.topo_model.specs.RationalTests.{IsOn}
-use Rattle.topo_model.proofs.Crossings.{back}
-use Rattle.topo_model.proofs.Collinear.{on_round}
-use Rattle.topo_model.proofs.PlainSplits.{one_point}
-use Rattle.topo_model.proofs.Relations.{same_end}
-use Rattle.topo_model.proofs.Signs.{times_one}
+use Rattle.plane.specs.Segment.{Segment}
+use Rattle.plane.specs.Relation.{IsEnd}
+use Rattle.plane.specs.RationalTests.{IsOn}
+use Rattle.plane.specs.Crossings.{back}
+use Rattle.plane.proofs.Collinear.{on_round}
+use Rattle.drawing.proofs.PlainSplits.{one_point}
+use Rattle.plane.proofs.Relations.{same_end}
+use Rattle.plane.proofs.Signs.{times_one}
 use Rattle.parity_laws.specs.Ways.{Tied, Fork}
 use Rattle.parity_laws.proofs.Tests.{same_self, same_is}
 use Rattle.parity_laws.proofs.Apartness.{fork_from}

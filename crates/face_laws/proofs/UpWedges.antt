@@ -3,11 +3,11 @@ use Rattle.std.proofs.Common.{◌≡◌, refl, sym, ◌∙◌, ap, subst, arith,
 use Rattle.std.specs.Prelude.{◌||◌, neg_ℤ}
 use Rattle.std.proofs.Math.IntN.{*ℤ-zero}
 use Rattle.std.proofs.lemmas.Bool.{both_ways, false_from_ne_true, eq-eqb}
-use Rattle.topo_model.specs.Direction.{Direction, dot, quarter, is_nearer, same_direction, in_wedge, straight_up, IsNotZero, OneDirection}
-use Rattle.topo_model.proofs.Directions.{nearer_self, nearer_onward, nearer_total, nearer_cyclic, same_out, same_in, one_turned}
-use Rattle.topo_model.proofs.Ring.{signed}
-use Rattle.topo_model.proofs.Signs.{times_one}
-use Rattle.topo_model.proofs.Wedges.{apart_nearer}
+use Rattle.plane.specs.Direction.{Direction, dot, quarter, is_nearer, same_direction, in_wedge, straight_up, IsNotZero, OneDirection}
+use Rattle.plane.proofs.Directions.{nearer_self, nearer_onward, nearer_total, nearer_cyclic, same_out, same_in, one_turned}
+use Rattle.plane.proofs.Ring.{signed}
+use Rattle.plane.proofs.Signs.{times_one}
+use Rattle.plane.proofs.Wedges.{apart_nearer}
 use Rattle.parity_laws.specs.Steps.{before}
 use Rattle.face_laws.proofs.Mirror.{mirrored, mirrored_some, one_mirrored, before_is, nearer_mirrored}
 

@@ -6,16 +6,16 @@ use Rattle.std.proofs.lemmas.Bool.{cases_order}
 use Rattle.std.proofs.lemmas.Option.{slice_get_within, slice_get-get_or}
 use Rattle.topo_base.specs.Point.{Point}
 use Rattle.topo_base.specs.RationalPoint.{rational, IsAt}
-use Rattle.topo_model.specs.Direction.{first_direction}
-use Rattle.topo_model.specs.Line.{segments_of, first_vertex, last_vertex, is_proper}
-use Rattle.topo_model.specs.Plain.{IsSimpleLine}
-use Rattle.topo_model.specs.RationalTests.{IsOn}
-use Rattle.topo_model.specs.Segment.{Segment}
-use Rattle.topo_model.proofs.Collinear.{at_point}
-use Rattle.topo_model.proofs.Crossings.{back}
-use Rattle.topo_model.proofs.LineCuts.{last_ends, place_front}
-use Rattle.topo_model.proofs.ListTests.{some_same}
-use Rattle.topo_model.proofs.SimpleTests.{before_it, first_begins, no_element}
+use Rattle.plane.specs.Direction.{first_direction}
+use Rattle.plane.specs.Line.{segments_of, first_vertex, last_vertex, is_proper}
+use Rattle.plane.specs.SimpleLine.{IsSimpleLine}
+use Rattle.plane.specs.RationalTests.{IsOn}
+use Rattle.plane.specs.Segment.{Segment}
+use Rattle.plane.proofs.Collinear.{at_point}
+use Rattle.plane.specs.Crossings.{back}
+use Rattle.plane.proofs.LineCuts.{last_ends, place_front}
+use Rattle.plane.proofs.ListTests.{some_same}
+use Rattle.plane.proofs.SimpleTests.{before_it, first_begins, no_element}
 use Rattle.parity_laws.specs.Steps.{direction}
 use Rattle.parity_laws.proofs.Across.{start_on, end_on}
 use Rattle.face_laws.proofs.LineSteps.{proper_at, segments-reverse, turned}

@@ -3,9 +3,9 @@ use Rattle.std.specs.Prelude.{◌≡◌, ◌≢◌, ℕ, eqb, IsTrue, Some}
 use Rattle.std.specs.List.{Contains}
 use Rattle.topo_base.specs.Point.{Point}
 use Rattle.topo_base.specs.declared.rows.NodeRow.{NodeRow}
-use Rattle.topo_model.specs.Segment.{Segment}
-use Rattle.topo_model.specs.Drawing.{Drawing, has_face}
-use Rattle.topo_model.specs.HalfEdge.{half_edges}
+use Rattle.plane.specs.Segment.{Segment}
+use Rattle.drawing.specs.Drawing.{Drawing, has_face}
+use Rattle.drawing.specs.HalfEdge.{half_edges}
 use Rattle.ring_laws.specs.Ringed.{IsRinged}
 use Rattle.parity_laws.specs.Steps.{above}
 use Rattle.parity_laws.specs.Rings.{those, Sided, of_face}

@@ -2,10 +2,10 @@
 use Rattle.std.specs.Prelude.{ℕ, Bool, cond, ◌&&◌, List, [], ◌∷◌, flat_map}
 use Rattle.std.specs.List.{list_any}
 use Rattle.topo_base.specs.Point.{same_point}
-use Rattle.topo_model.specs.Segment.{Segment}
-use Rattle.topo_model.specs.Line.{segments_of}
-use Rattle.topo_model.specs.Drawing.{Drawing}
-use Rattle.topo_model.specs.HalfEdge.{HalfEdge, half_edges}
+use Rattle.plane.specs.Segment.{Segment}
+use Rattle.plane.specs.Line.{segments_of}
+use Rattle.drawing.specs.Drawing.{Drawing}
+use Rattle.drawing.specs.HalfEdge.{HalfEdge, half_edges}
 
 -- the steps of a half-edge, and those of all
 abbrev pub steps_along : HalfEdge → List Segment

@@ -3,17 +3,17 @@ use Rattle.std.proofs.Common.{◌≡◌, ℕ, Bool, true, false, not, ◌&&◌, 
 use Rattle.std.specs.Option.{option_copied}
 use Rattle.topo_base.specs.declared.rows.EdgeRow.{EdgeRow}
 use Rattle.topo_base.specs.declared.rule.Rule.TheVariants.{NoEdge, EdgeInFeature, FaceInFeature}
-use Rattle.topo_model.specs.Drawing.{Drawing, Edge, edge_at, edge_id_of}
-use Rattle.topo_model.specs.IsoEdits.{is_in_feature}
-use Rattle.topo_model.specs.Outcome.{Outcome}
-use Rattle.topo_model.specs.Relations.{edge_type, face_type}
-use Rattle.topo_model.specs.RemoveEdge.{have_same_features}
-use Rattle.topo_model.specs.Edits.{remove_edge}
-use Rattle.topo_model.specs.Apply.{carried_out}
-use Rattle.topo_model.specs.Decide.{faces_join}
-use Rattle.topo_model.specs.Rows.{row_at}
-use Rattle.topo_model.specs.Tables.{Tables, drawn, drawn_edge}
-use Rattle.topo_model.specs.Writes.{edge_row_id}
+use Rattle.drawing.specs.Drawing.{Drawing, Edge, edge_at, edge_id_of}
+use Rattle.drawing.specs.IsoEdits.{is_in_feature}
+use Rattle.drawing.specs.Outcome.{Outcome}
+use Rattle.drawing.specs.Relations.{edge_type, face_type}
+use Rattle.drawing.specs.RemoveEdge.{have_same_features}
+use Rattle.drawing.specs.Edits.{remove_edge}
+use Rattle.drawing.specs.Apply.{carried_out}
+use Rattle.drawing.specs.Decide.{faces_join}
+use Rattle.drawing.specs.Rows.{row_at}
+use Rattle.drawing.specs.Tables.{Tables, drawn, drawn_edge}
+use Rattle.drawing.specs.Writes.{edge_row_id}
 use Rattle.merged_faces.specs.Merging.{with_merged}
 use Rattle.merged_faces.proofs.Outcomes.{accepted}
 

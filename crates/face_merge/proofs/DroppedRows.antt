@@ -3,17 +3,17 @@ use Rattle.std.proofs.Common.{◌≡◌, ℕ, sym, ap, ◌∙◌, subst, eqb-tru
 use Rattle.std.specs.Prelude.{Contains, ◌==◌, not}
 use Rattle.topo_base.specs.declared.rows.EdgeRow.{EdgeRow}
 use Rattle.topo_base.specs.declared.write.RowWrite.{RowWrite}
-use Rattle.topo_model.proofs.Ordering.{InOrder-filter}
-use Rattle.topo_model.proofs.PlainChanges.{edges_filtered}
-use Rattle.topo_model.proofs.PlainParts.{parts_of, plain_of}
-use Rattle.topo_model.proofs.TableLemmas.{drawn-tables_of}
-use Rattle.topo_model.proofs.Members.{contains-found, contains-map}
-use Rattle.topo_model.specs.Drawing.{Drawing, Edge, edge_id_of}
-use Rattle.topo_model.specs.PlainLaw.{IsPlainInOrder}
-use Rattle.topo_model.specs.Rows.{row_at}
-use Rattle.topo_model.specs.Tables.{Tables, drawn, drawn_edge, tables_of}
-use Rattle.topo_model.specs.Writable.{CanWriteAll}
-use Rattle.topo_model.specs.Writes.{all_written, edge_row_id}
+use Rattle.drawing.proofs.Ordering.{InOrder-filter}
+use Rattle.drawing.proofs.PlainChanges.{edges_filtered}
+use Rattle.drawing.proofs.PlainParts.{parts_of, plain_of}
+use Rattle.drawing.proofs.TableLemmas.{drawn-tables_of}
+use Rattle.drawing.proofs.Members.{contains-found, contains-map}
+use Rattle.drawing.specs.Drawing.{Drawing, Edge, edge_id_of}
+use Rattle.drawing.specs.PlainInOrder.{IsPlainInOrder}
+use Rattle.drawing.specs.Rows.{row_at}
+use Rattle.drawing.specs.Tables.{Tables, drawn, drawn_edge, tables_of}
+use Rattle.drawing.specs.Writable.{CanWriteAll}
+use Rattle.drawing.specs.Writes.{all_written, edge_row_id}
 use Rattle.edge_links.specs.LinksLaw.{HasDirections}
 use Rattle.edge_links.specs.UnlinksLaw.{drop_writes_of, dropped_rows, edge_gone}
 use Rattle.edge_links.proofs.RightUnlinks.{unlinks_are_right}

@@ -2,9 +2,9 @@
 use Rattle.std.proofs.Common.{◌≡◌, List, [], ◌∷◌, map, subst, ⊎_elim}
 use Rattle.std.specs.List.{Contains}
 use Rattle.topo_base.specs.declared.rows.EdgeRow.{EdgeRow}
-use Rattle.topo_model.proofs.ListTests.{contains_here, contains_there, contains_cases, contains_none}
-use Rattle.topo_model.specs.Drawing.{Drawing, Edge}
-use Rattle.topo_model.specs.Tables.{Tables, drawn, drawn_edge}
+use Rattle.plane.proofs.ListTests.{contains_here, contains_there, contains_cases, contains_none}
+use Rattle.drawing.specs.Drawing.{Drawing, Edge}
+use Rattle.drawing.specs.Tables.{Tables, drawn, drawn_edge}
 use Rattle.edge_links.specs.UnlinksLaw.{dropped_rows}
 use Rattle.merged_faces.specs.declared.removed.Removed.{Removed}
 use Rattle.merged_faces.specs.Sides.{removed_of}

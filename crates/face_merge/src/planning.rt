@@ -1,12 +1,12 @@
 // Plans of removed edges.
 ghost use Rattle.std.specs.Prelude.{◌≡◌, ◌==◌, ◌&&◌, not, Contains, IfOk, IsTrue};
-ghost use Rattle.topo_model.specs.Drawing.{edge_at};
-ghost use Rattle.topo_model.specs.IsoEdits.{is_in_feature as is_element_in_feature};
-ghost use Rattle.topo_model.specs.Relations.{edge_type, face_type};
-ghost use Rattle.topo_model.specs.RemoveEdge.{have_same_features};
-ghost use Rattle.topo_model.specs.Edits.{remove_edge};
-ghost use Rattle.topo_model.specs.Step.{step};
-ghost use Rattle.topo_model.specs.Tables.{drawn, drawn_edge, tables_of};
+ghost use Rattle.drawing.specs.Drawing.{edge_at};
+ghost use Rattle.drawing.specs.IsoEdits.{is_in_feature as is_element_in_feature};
+ghost use Rattle.drawing.specs.Relations.{edge_type, face_type};
+ghost use Rattle.drawing.specs.RemoveEdge.{have_same_features};
+ghost use Rattle.drawing.specs.Edits.{remove_edge};
+ghost use Rattle.drawing.specs.Step.{step};
+ghost use Rattle.drawing.specs.Tables.{drawn, drawn_edge, tables_of};
 ghost use Rattle.merged_faces.specs.Merging.{with_merged};
 ghost use Rattle.read_set.specs.Answered.{IsAnswered};
 ghost use Rattle.read_set.specs.Planned.{IsEditor};

@@ -1,7 +1,7 @@
 // An edge that goes, whose faces and nodes are still as they were.
 ghost use Rattle.std.specs.Prelude.{◌≡◌, ◌∷◌, ◌++◌, ◌==◌, [], IfOk, OnOk, Contains, if◌then◌else◌};
-ghost use Rattle.topo_model.specs.PlainLaw.{IsPlainInOrder};
-ghost use Rattle.topo_model.specs.Tables.{drawn, tables_of};
+ghost use Rattle.drawing.specs.PlainInOrder.{IsPlainInOrder};
+ghost use Rattle.drawing.specs.Tables.{drawn, tables_of};
 ghost use Rattle.edge_links.specs.LinksLaw.{HasDirections};
 ghost use Rattle.edge_links.specs.UnlinksLaw.{dropped_rows, unlinks_at, unlinks_of};
 ghost use Rattle.read_set.specs.Drafted.{IsDraftOf};

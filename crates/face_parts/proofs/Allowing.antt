@@ -8,16 +8,16 @@ use Rattle.topo_base.specs.declared.rows.Counters.{Counters}
 use Rattle.topo_base.specs.declared.rows.EdgeRow.{EdgeRow}
 use Rattle.topo_base.specs.declared.rows.NodeRow.{NodeRow}
 use Rattle.topo_base.specs.declared.write.RowWrite.{RowWrite}
-use Rattle.topo_model.specs.AddEdge.{Division, is_on_left, part_beside}
-use Rattle.topo_model.specs.Drawing.{Drawing, Edge, node_id_of}
-use Rattle.topo_model.specs.HalfEdge.{HalfEdge, forward_of, backward_of, half_edges}
-use Rattle.topo_model.specs.Ring.{ring_of, contains_half_edge, least_vertex}
-use Rattle.topo_model.specs.Rows.{has_row}
-use Rattle.topo_model.specs.Tables.{Tables, edge_row, tables_of}
-use Rattle.topo_model.specs.Writable.{CanWriteAll, has_edge_row, has_face_row, has_node_row}
-use Rattle.topo_model.specs.Writes.{all_written, written, edge_row_id, with_side}
-use Rattle.topo_model.proofs.ListTests.{contains_here, contains_there}
-use Rattle.topo_model.proofs.Members.{contains-map}
+use Rattle.drawing.specs.AddEdge.{Division, is_on_left, part_beside}
+use Rattle.drawing.specs.Drawing.{Drawing, Edge, node_id_of}
+use Rattle.drawing.specs.HalfEdge.{HalfEdge, forward_of, backward_of, half_edges}
+use Rattle.drawing.specs.Ring.{ring_of, contains_half_edge, least_vertex}
+use Rattle.drawing.specs.Rows.{has_row}
+use Rattle.drawing.specs.Tables.{Tables, edge_row, tables_of}
+use Rattle.drawing.specs.Writable.{CanWriteAll, has_edge_row, has_face_row, has_node_row}
+use Rattle.drawing.specs.Writes.{all_written, written, edge_row_id, with_side}
+use Rattle.plane.proofs.ListTests.{contains_here, contains_there}
+use Rattle.drawing.proofs.Members.{contains-map}
 use Rattle.face_rings.specs.declared.content.BorderDart.{BorderDart}
 use Rattle.face_rings.specs.Rings.{rings}
 use Rattle.face_rings.proofs.HalvesApart.{half_of}

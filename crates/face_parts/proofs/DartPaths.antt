@@ -5,15 +5,16 @@ use Rattle.std.specs.List.{Contains}
 use Rattle.std.proofs.lemmas.Bool.{and_from, false≢true}
 use Rattle.topo_base.specs.declared.ids.Dart.{Dart}
 use Rattle.topo_base.specs.declared.rows.EdgeRow.{EdgeRow}
-use Rattle.topo_model.specs.Drawing.{Drawing, Edge, edge_id_of}
-use Rattle.topo_model.specs.HalfEdge.{HalfEdge, forward_of, backward_of, half_edges, dart_of}
-use Rattle.topo_model.specs.Ring.{ring_of, ring_segments, closed_segments}
-use Rattle.topo_model.specs.Rows.{row_at, has_row}
-use Rattle.topo_model.specs.Tables.{edge_row, tables_of}
-use Rattle.topo_model.specs.Writes.{edge_row_id}
-use Rattle.topo_model.proofs.ListTests.{contains_cases, contains_none}
-use Rattle.topo_model.proofs.Members.{ids_within}
-use Rattle.topo_model.proofs.Ordering.{InOrder, first_of}
+use Rattle.drawing.specs.Drawing.{Drawing, Edge, edge_id_of}
+use Rattle.drawing.specs.HalfEdge.{HalfEdge, forward_of, backward_of, half_edges, dart_of}
+use Rattle.drawing.specs.Ring.{ring_of, ring_segments}
+use Rattle.plane.specs.ClosedWalk.{closed_segments}
+use Rattle.drawing.specs.Rows.{row_at, has_row}
+use Rattle.drawing.specs.Tables.{edge_row, tables_of}
+use Rattle.drawing.specs.Writes.{edge_row_id}
+use Rattle.plane.proofs.ListTests.{contains_cases, contains_none}
+use Rattle.drawing.proofs.Members.{ids_within}
+use Rattle.drawing.proofs.Ordering.{InOrder, first_of}
 use Rattle.face_rings.proofs.FaceBorders.{has_plain_lines}
 use Rattle.face_rings.proofs.HalfLines.{HasPlainLines}
 use Rattle.face_rings.proofs.HalvesApart.{half_of}

@@ -11,16 +11,16 @@ use Rattle.topo_base.specs.declared.ids.Dart.{Dart}
 use Rattle.topo_base.specs.declared.rows.Counters.{Counters}
 use Rattle.topo_base.specs.declared.rows.EdgeRow.{EdgeRow}
 use Rattle.topo_base.specs.declared.rows.NodeRow.{NodeRow}
-use Rattle.topo_model.specs.AddEdge.{Division, part_beside, divided_side, divided_edge, divided_node}
-use Rattle.topo_model.specs.Drawing.{Drawing, Edge, node_id_of}
-use Rattle.topo_model.specs.HalfEdge.{HalfEdge, forward_of, backward_of, both_ways, half_edges, dart_of}
-use Rattle.topo_model.specs.Ring.{ring_of, contains_half_edge}
-use Rattle.topo_model.specs.Subdivision.{begins_ring, rows_in_order}
-use Rattle.topo_model.specs.Tables.{Tables, edge_row, tables_of}
-use Rattle.topo_model.specs.Writes.{all_written}
-use Rattle.topo_model.proofs.ListTests.{contains_none, Decides-any}
-use Rattle.topo_model.proofs.Members.{contains-mapped, contains-filtered}
-use Rattle.topo_model.proofs.WritesInOrder.{written-append}
+use Rattle.drawing.specs.AddEdge.{Division, part_beside, divided_side, divided_edge, divided_node}
+use Rattle.drawing.specs.Drawing.{Drawing, Edge, node_id_of}
+use Rattle.drawing.specs.HalfEdge.{HalfEdge, forward_of, backward_of, both_ways, half_edges, dart_of}
+use Rattle.drawing.specs.Ring.{ring_of, contains_half_edge}
+use Rattle.drawing.specs.Subdivision.{begins_ring, rows_in_order}
+use Rattle.drawing.specs.Tables.{Tables, edge_row, tables_of}
+use Rattle.drawing.specs.Writes.{all_written}
+use Rattle.plane.proofs.ListTests.{contains_none, Decides-any}
+use Rattle.drawing.proofs.Members.{contains-mapped, contains-filtered}
+use Rattle.drawing.proofs.WritesInOrder.{written-append}
 use Rattle.face_rings.specs.declared.content.BorderDart.{BorderDart}
 use Rattle.face_rings.specs.Border.{has_dart, are_linked}
 use Rattle.face_rings.specs.Rings.{rings, ring_of as ring_of_dart}

@@ -4,8 +4,8 @@ use Rattle.std.specs.Prelude.{find, flat_map}
 use Rattle.std.specs.List.{Contains}
 use Rattle.std.proofs.lemmas.Bool.{false≢true, or_left, or_right}
 use Rattle.std.proofs.lemmas.List.Elements.{Contains-append_left, Contains-append_right, Contains-append_cases}
-use Rattle.topo_model.specs.Rows.{has_row, with_change}
-use Rattle.topo_model.proofs.ListTests.{contains_here, contains_there, contains_cases, contains_none}
+use Rattle.drawing.specs.Rows.{has_row, with_change}
+use Rattle.plane.proofs.ListTests.{contains_here, contains_there, contains_cases, contains_none}
 
 -- the one element that meets a test is found
 pub found_one : {X : Type 0} (p : X → Bool) (xs : List X) (x : X) → Contains xs x → p x ≡ true → ((y : X) → Contains xs y → p y ≡ true → y ≡ x) → find p xs ≡ Some x

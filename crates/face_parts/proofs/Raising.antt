@@ -8,8 +8,8 @@ use Rattle.topo_base.specs.declared.ids.Dart.{Dart}
 use Rattle.topo_base.specs.declared.rows.Counters.{Counters}
 use Rattle.topo_base.specs.declared.rows.NodeRow.{NodeRow}
 use Rattle.topo_base.specs.declared.write.RowWrite.{RowWrite}
-use Rattle.topo_model.specs.Tables.{Tables}
-use Rattle.topo_model.specs.Writes.{raised_by}
+use Rattle.drawing.specs.Tables.{Tables}
+use Rattle.drawing.specs.Writes.{raised_by}
 use Rattle.face_rings.specs.declared.content.BorderDart.{BorderDart}
 use Rattle.face_rings.specs.Rings.{rings}
 use Rattle.face_parts.specs.declared.parts.FaceParts.{FaceParts}

@@ -5,19 +5,20 @@ use Rattle.std.specs.List.{Contains, list_all}
 use Rattle.std.proofs.lemmas.Bool.{and_parts, false≢true}
 use Rattle.topo_base.specs.Point.{Point}
 use Rattle.topo_base.specs.declared.rows.EdgeRow.{EdgeRow}
-use Rattle.topo_model.specs.AddEdge.{Division, is_on_left, part_at, part_beside}
-use Rattle.topo_model.specs.Drawing.{Drawing, Edge}
-use Rattle.topo_model.specs.Faces.{xor, is_odd_over}
-use Rattle.topo_model.specs.HalfEdge.{HalfEdge, forward_of, backward_of, half_edges, same_half_edge, comes_before, dart_of}
-use Rattle.topo_model.specs.Line.{first_vertex}
-use Rattle.topo_model.specs.Ring.{walk, ring_of, contains_half_edge, closed_segments, earlier_of, is_hole_walk, least_vertex, ring_segments}
-use Rattle.topo_model.specs.Rows.{row_at}
-use Rattle.topo_model.specs.Star.{next_of}
-use Rattle.topo_model.specs.Subdivision.{begins_ring}
-use Rattle.topo_model.specs.Tables.{Tables, edge_row, tables_of}
-use Rattle.topo_model.specs.Writes.{edge_row_id}
-use Rattle.topo_model.proofs.LineTurns.{first-reverse}
-use Rattle.topo_model.proofs.Members.{contains-map, contains-mapped}
+use Rattle.drawing.specs.AddEdge.{Division, is_on_left, part_at, part_beside}
+use Rattle.drawing.specs.Drawing.{Drawing, Edge}
+use Rattle.plane.specs.Parity.{xor, is_odd_over}
+use Rattle.drawing.specs.HalfEdge.{HalfEdge, forward_of, backward_of, half_edges, same_half_edge, comes_before, dart_of}
+use Rattle.plane.specs.Line.{first_vertex}
+use Rattle.drawing.specs.Ring.{walk, ring_of, contains_half_edge, earlier_of, least_vertex, ring_segments}
+use Rattle.plane.specs.ClosedWalk.{closed_segments, is_hole_walk}
+use Rattle.drawing.specs.Rows.{row_at}
+use Rattle.drawing.specs.Star.{next_of}
+use Rattle.drawing.specs.Subdivision.{begins_ring}
+use Rattle.drawing.specs.Tables.{Tables, edge_row, tables_of}
+use Rattle.drawing.specs.Writes.{edge_row_id}
+use Rattle.plane.proofs.LineTurns.{first-reverse}
+use Rattle.drawing.proofs.Members.{contains-map, contains-mapped}
 use Rattle.face_rings.specs.declared.content.BorderDart.{BorderDart}
 use Rattle.face_rings.specs.Border.{has_dart}
 use Rattle.face_rings.specs.FaceBorder.{face_border}

@@ -6,13 +6,14 @@ use Rattle.std.proofs.lemmas.Bool.{and_parts, false≢true}
 use Rattle.std.proofs.lemmas.Bool.Decides.{Decides-not}
 use Rattle.std.proofs.lemmas.List.{length-append, length-map}
 use Rattle.topo_base.specs.Point.{Point, same_point}
-use Rattle.topo_model.specs.Drawing.{Drawing}
-use Rattle.topo_model.specs.HalfEdge.{HalfEdge, half_edges, twin, same_half_edge, dart_of}
-use Rattle.topo_model.specs.Line.{segments_of, first_vertex, last_vertex, is_proper}
-use Rattle.topo_model.specs.Ring.{walk, ring_of, ring_segments, closed_segments}
-use Rattle.topo_model.specs.Star.{next_of}
-use Rattle.topo_model.proofs.LineTurns.{first-reverse}
-use Rattle.topo_model.proofs.PointTests.{Decides-same_point}
+use Rattle.drawing.specs.Drawing.{Drawing}
+use Rattle.drawing.specs.HalfEdge.{HalfEdge, half_edges, twin, same_half_edge, dart_of}
+use Rattle.plane.specs.Line.{segments_of, first_vertex, last_vertex, is_proper}
+use Rattle.drawing.specs.Ring.{walk, ring_of, ring_segments}
+use Rattle.plane.specs.ClosedWalk.{closed_segments}
+use Rattle.drawing.specs.Star.{next_of}
+use Rattle.plane.proofs.LineTurns.{first-reverse}
+use Rattle.plane.proofs.PointTests.{Decides-same_point}
 use Rattle.face_rings.specs.declared.content.BorderDart.{BorderDart}
 use Rattle.face_rings.specs.FaceBorder.{is_beside, beside, border_dart, face_border, HasRings}
 use Rattle.face_rings.proofs.FaceBorders.{has_plain_lines, half_by_dart, in_beside, has_half, border_linked}

@@ -5,7 +5,7 @@ use Rattle.std.specs.List.{Contains}
 use Rattle.std.proofs.lemmas.List.{map-append}
 use Rattle.topo_base.specs.declared.ids.Dart.{Dart}
 use Rattle.topo_base.specs.declared.write.RowWrite.{RowWrite}
-use Rattle.topo_model.proofs.ListTests.{contains_here, contains_there}
+use Rattle.plane.proofs.ListTests.{contains_here, contains_there}
 use Rattle.face_parts.specs.Sides.{set_side, side_writes}
 use Rattle.face_parts.proofs.Lists.{map_agree}
 

@@ -1,10 +1,10 @@
 -- Links stay where sides change.
 use Rattle.std.proofs.Common.{◌≡◌, ℕ, List, [], ◌∷◌, map, refl, sym, ap, ◌∙◌}
 use Rattle.std.specs.List.{flat_map}
-use Rattle.topo_model.specs.Drawing.{Edge}
-use Rattle.topo_model.specs.HalfEdge.{HalfEdge, forward_of, backward_of, both_ways, dart_of}
-use Rattle.topo_model.specs.Star.{next_of}
-use Rattle.topo_model.specs.Tables.{edge_row}
+use Rattle.drawing.specs.Drawing.{Edge}
+use Rattle.drawing.specs.HalfEdge.{HalfEdge, forward_of, backward_of, both_ways, dart_of}
+use Rattle.drawing.specs.Star.{next_of}
+use Rattle.drawing.specs.Tables.{edge_row}
 use Rattle.ring_laws.proofs.Faceless.{faceless, next_faceless}
 use Rattle.face_parts.specs.SidesLaw.{with_sides}
 

@@ -10,13 +10,13 @@ use Rattle.topo_base.specs.declared.rows.EdgeRow.{EdgeRow}
 use Rattle.topo_base.specs.declared.rows.NodeRow.{NodeRow}
 use Rattle.topo_base.specs.declared.write.RowId.TheVariants.{Old}
 use Rattle.topo_base.specs.declared.write.RowWrite.TheVariants.{SetContaining}
-use Rattle.topo_model.specs.Drawing.{node_id_of}
-use Rattle.topo_model.specs.Rows.{with_change}
+use Rattle.drawing.specs.Drawing.{node_id_of}
+use Rattle.drawing.specs.Rows.{with_change}
 use Rattle.face_rings.specs.Border.{has_dart}
-use Rattle.topo_model.specs.Tables.{Tables}
-use Rattle.topo_model.specs.Writes.{all_written, edge_row_id, with_side}
-use Rattle.topo_model.proofs.Ordering.{InOrder, first_of}
-use Rattle.topo_model.proofs.WritesInOrder.{written-append}
+use Rattle.drawing.specs.Tables.{Tables}
+use Rattle.drawing.specs.Writes.{all_written, edge_row_id, with_side}
+use Rattle.drawing.proofs.Ordering.{InOrder, first_of}
+use Rattle.drawing.proofs.WritesInOrder.{written-append}
 use Rattle.face_parts.specs.Sides.{dart_along, hand_of, set_side, part_or, with_parts, in_part, node_write, node_writes}
 use Rattle.face_parts.specs.SidesLaw.{SidesFollow}
 use Rattle.face_parts.proofs.RowSides.{row_sides}

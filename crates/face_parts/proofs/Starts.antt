@@ -3,8 +3,8 @@ use Rattle.std.proofs.Common.{◌≡◌, ◌-◌, ◌<◌, ◌≤◌, refl, sym,
 use Rattle.std.specs.Prelude.{reverse}
 use Rattle.std.proofs.lemmas.List.{get_or-reverse, length-reverse}
 use Rattle.topo_base.specs.Point.{Point}
-use Rattle.topo_model.specs.Line.{first_vertex, last_vertex}
-use Rattle.topo_model.proofs.LineTurns.{first-reverse}
+use Rattle.plane.specs.Line.{first_vertex, last_vertex}
+use Rattle.plane.proofs.LineTurns.{first-reverse}
 
 first_read : (l : List Point) (p : Point) → 0 < length l → first_vertex l ≡ get_or l 0 p
 first_read [] p h = absurd (omega arith)

@@ -3,8 +3,8 @@ use Rattle.std.proofs.Common.{◌≡◌, suc, ◌-◌, List, [], ◌∷◌, ◌+
 use Rattle.std.specs.Prelude.{reverse}
 use Rattle.std.proofs.lemmas.Grind.{reverse_onto}
 use Rattle.topo_base.specs.Point.{Point}
-use Rattle.topo_model.specs.Line.{segments_of, last_vertex}
-use Rattle.topo_model.proofs.SegmentParts.{segment}
+use Rattle.plane.specs.Line.{segments_of, last_vertex}
+use Rattle.plane.proofs.SegmentParts.{segment}
 use Rattle.face_parts.specs.Paths.{without_last}
 
 -- all but the last of a line are so many of its first, and of the line walked back all but its first

@@ -4,12 +4,12 @@ use Rattle.topo_base.specs.Point.{Point}
 use Rattle.topo_base.specs.declared.ids.Dart.{Dart}
 use Rattle.topo_base.specs.declared.rows.EdgeRow.{EdgeRow}
 use Rattle.topo_base.specs.declared.write.RowWrite.{RowWrite}
-use Rattle.topo_model.specs.Faces.{xor, is_odd_over}
-use Rattle.topo_model.specs.Line.{first_vertex, last_vertex}
-use Rattle.topo_model.specs.Ring.{closed_segments, is_hole_walk}
-use Rattle.topo_model.specs.Rows.{row_at}
-use Rattle.topo_model.specs.Tables.{Tables}
-use Rattle.topo_model.specs.Writes.{edge_row_id}
+use Rattle.plane.specs.Parity.{xor, is_odd_over}
+use Rattle.plane.specs.Line.{first_vertex, last_vertex}
+use Rattle.plane.specs.ClosedWalk.{closed_segments, is_hole_walk}
+use Rattle.drawing.specs.Rows.{row_at}
+use Rattle.drawing.specs.Tables.{Tables}
+use Rattle.drawing.specs.Writes.{edge_row_id}
 use Rattle.face_rings.specs.declared.content.BorderDart.{BorderDart}
 use Rattle.face_rings.specs.Border.{has_dart}
 use Rattle.face_rings.specs.Rings.{rings}

@@ -1,11 +1,12 @@
 -- A face of a drawing that an edge divides, as rows have it, and the tables after the division.
 use Rattle.std.specs.Prelude.{◌≡◌, List, flat_map, map}
 use Rattle.topo_base.specs.Point.{Point}
-use Rattle.topo_model.specs.AddEdge.{Division, divided_edge, divided_node}
-use Rattle.topo_model.specs.Drawing.{Drawing, Edge}
-use Rattle.topo_model.specs.HalfEdge.{both_ways, half_edges}
-use Rattle.topo_model.specs.Ring.{closed_segments, ring_segments}
-use Rattle.topo_model.specs.Tables.{Tables, edge_row, tables_of}
+use Rattle.drawing.specs.AddEdge.{Division, divided_edge, divided_node}
+use Rattle.drawing.specs.Drawing.{Drawing, Edge}
+use Rattle.drawing.specs.HalfEdge.{both_ways, half_edges}
+use Rattle.plane.specs.ClosedWalk.{closed_segments}
+use Rattle.drawing.specs.Ring.{ring_segments}
+use Rattle.drawing.specs.Tables.{Tables, edge_row, tables_of}
 use Rattle.face_rings.specs.declared.content.BorderDart.{BorderDart}
 use Rattle.face_rings.specs.FaceBorder.{HasRings, face_border}
 use Rattle.ring_laws.specs.Parts.{IsDividedBy}

@@ -4,12 +4,12 @@ use Rattle.std.specs.List.{Contains, list_all}
 use Rattle.topo_base.specs.Point.{Point}
 use Rattle.topo_base.specs.declared.ids.Dart.{Dart}
 use Rattle.topo_base.specs.declared.rows.EdgeRow.{EdgeRow}
-use Rattle.topo_model.specs.Drawing.{Drawing}
-use Rattle.topo_model.specs.HalfEdge.{HalfEdge, half_edges, dart_of}
-use Rattle.topo_model.specs.Ring.{ring_of}
-use Rattle.topo_model.specs.Rows.{row_at, has_row}
-use Rattle.topo_model.specs.Tables.{tables_of}
-use Rattle.topo_model.specs.Writes.{edge_row_id}
+use Rattle.drawing.specs.Drawing.{Drawing}
+use Rattle.drawing.specs.HalfEdge.{HalfEdge, half_edges, dart_of}
+use Rattle.drawing.specs.Ring.{ring_of}
+use Rattle.drawing.specs.Rows.{row_at, has_row}
+use Rattle.drawing.specs.Tables.{tables_of}
+use Rattle.drawing.specs.Writes.{edge_row_id}
 use Rattle.face_rings.specs.FaceBorder.{HasRings}
 
 -- all vertices but the last

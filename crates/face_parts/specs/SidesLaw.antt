@@ -3,11 +3,11 @@ use Rattle.std.specs.Prelude.{◌≡◌, ℕ, IsTrue, List, map, flat_map}
 use Rattle.topo_base.specs.Point.{Point}
 use Rattle.topo_base.specs.declared.ids.Dart.{Dart}
 use Rattle.topo_base.specs.declared.rows.Counters.{Counters}
-use Rattle.topo_model.specs.Drawing.{Edge, node_id_of}
-use Rattle.topo_model.specs.HalfEdge.{both_ways}
-use Rattle.topo_model.specs.Subdivision.{rows_in_order}
-use Rattle.topo_model.specs.Tables.{Tables, edge_row}
-use Rattle.topo_model.specs.Writes.{all_written}
+use Rattle.drawing.specs.Drawing.{Edge, node_id_of}
+use Rattle.drawing.specs.HalfEdge.{both_ways}
+use Rattle.drawing.specs.Subdivision.{rows_in_order}
+use Rattle.drawing.specs.Tables.{Tables, edge_row}
+use Rattle.drawing.specs.Writes.{all_written}
 use Rattle.face_parts.specs.Sides.{set_side, with_parts, in_part, node_writes}
 
 -- an edge with other faces on its sides

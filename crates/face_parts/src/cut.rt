@@ -18,7 +18,7 @@ pub struct Cut {
 impl Model for Cut {
     ghost use Rattle.std.specs.Prelude.{◌≡◌, List, not};
     ghost use Rattle.topo_base.specs.Point.{Point};
-    ghost use Rattle.topo_model.specs.Ring.{closed_segments, is_hole_walk};
+    ghost use Rattle.plane.specs.ClosedWalk.{closed_segments, is_hole_walk};
 
     ghost Value = { List Point };
 

@@ -1,11 +1,11 @@
 // The row writes by which sides and containing faces follow the division of a face.
 ghost use Rattle.std.specs.Prelude.{◌≡◌, ◌≤◌, ◌+◌, length, IfOk, IsTrue};
 ghost use Rattle.topo_base.specs.declared.rows.Counters.{Counters};
-ghost use Rattle.topo_model.specs.AddEdge.{Division};
-ghost use Rattle.topo_model.specs.Drawing.{Drawing, Edge};
-ghost use Rattle.topo_model.specs.Tables.{Tables as TablesValue};
-ghost use Rattle.topo_model.specs.Writable.{CanWriteAll, has_face_row};
-ghost use Rattle.topo_model.specs.Writes.{all_written};
+ghost use Rattle.drawing.specs.AddEdge.{Division};
+ghost use Rattle.drawing.specs.Drawing.{Drawing, Edge};
+ghost use Rattle.drawing.specs.Tables.{Tables as TablesValue};
+ghost use Rattle.drawing.specs.Writable.{CanWriteAll, has_face_row};
+ghost use Rattle.drawing.specs.Writes.{all_written};
 ghost use Rattle.face_rings.specs.Border.{are_linked};
 ghost use Rattle.face_rings.specs.Rings.{rings};
 ghost use Rattle.face_parts.specs.Divided.{division_writes};

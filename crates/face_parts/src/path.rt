@@ -1,11 +1,12 @@
 //! The closed walk through the vertices of a ring's darts.
 
 ghost use Rattle.std.specs.Prelude.{◌≡◌, ◌+◌, ◌++◌, ◌≤◌, IfOk, IsTrue, OnOk, drop, length, nat_le, reverse};
-ghost use Rattle.topo_model.specs.Drawing.{Drawing};
-ghost use Rattle.topo_model.specs.HalfEdge.{HalfEdge, half_edges};
-ghost use Rattle.topo_model.specs.Ring.{closed_segments, ring_of, ring_segments};
-ghost use Rattle.topo_model.specs.Rows.{has_row};
-ghost use Rattle.topo_model.specs.Writes.{edge_row_id};
+ghost use Rattle.drawing.specs.Drawing.{Drawing};
+ghost use Rattle.drawing.specs.HalfEdge.{HalfEdge, half_edges};
+ghost use Rattle.plane.specs.ClosedWalk.{closed_segments};
+ghost use Rattle.drawing.specs.Ring.{ring_of, ring_segments};
+ghost use Rattle.drawing.specs.Rows.{has_row};
+ghost use Rattle.drawing.specs.Writes.{edge_row_id};
 ghost use Rattle.face_parts.specs.Paths.{IsRingOf, are_edges, path_of, path_part, without_last};
 
 use grid_rays::Ring;

@@ -1,8 +1,8 @@
 //! The path along a closed edge, walked both ways.
 
 ghost use Rattle.std.specs.Prelude.{◌≡◌, ◌<◌, true, length};
-ghost use Rattle.topo_model.specs.Rows.{row_at};
-ghost use Rattle.topo_model.specs.Writes.{edge_row_id};
+ghost use Rattle.drawing.specs.Rows.{row_at};
+ghost use Rattle.drawing.specs.Writes.{edge_row_id};
 ghost use Rattle.face_parts.specs.Paths.{walked_row};
 
 use crate::ring_path;

@@ -1,6 +1,6 @@
 // The row writes of sides and of containing faces.
 ghost use Rattle.std.specs.Prelude.{◌≡◌, ◌≤◌, ◌+◌, ◌++◌, length, map, OnOk};
-ghost use Rattle.topo_model.specs.Places.{rows_of};
+ghost use Rattle.drawing.specs.Places.{rows_of};
 ghost use Rattle.face_rings.specs.Rings.{darts_in};
 ghost use Rattle.face_parts.specs.Divided.{part_of_point, part_of_ring};
 ghost use Rattle.face_parts.specs.Sides.{node_write, node_writes, ring_writes, set_side, lies_in, set_containing, side_writes};

@@ -5,8 +5,8 @@ use Rattle.std.specs.List.{Contains}
 use Rattle.std.proofs.lemmas.Bool.{cases_order, cases_lt, false≢true, or_left, or_right}
 use Rattle.topo_base.specs.Darts.{same_dart}
 use Rattle.topo_base.specs.declared.ids.Dart.{Dart}
-use Rattle.topo_model.proofs.ListTests.{Decides-any}
-use Rattle.topo_model.proofs.Members.{contains-map, contains-mapped, contains-filter, contains-filtered}
+use Rattle.plane.proofs.ListTests.{Decides-any}
+use Rattle.drawing.proofs.Members.{contains-map, contains-mapped, contains-filter, contains-filtered}
 use Rattle.face_rings.specs.declared.content.BorderDart.{BorderDart}
 use Rattle.face_rings.specs.Border.{darts_of, has_dart, next_dart, are_linked}
 use Rattle.face_rings.specs.Rings.{walk, ring_of, begins_ring, rings}

@@ -7,16 +7,16 @@ use Rattle.std.proofs.lemmas.List.{length-map}
 use Rattle.std.proofs.lemmas.List.Elements.{All-contains}
 use Rattle.topo_base.specs.Darts.{same_dart}
 use Rattle.topo_base.specs.declared.ids.Dart.{Dart}
-use Rattle.topo_model.specs.Drawing.{Drawing, Edge, node_id_of, edge_id_of}
-use Rattle.topo_model.specs.HalfEdge.{HalfEdge, forward_of, backward_of, both_ways, half_edges, same_half_edge, dart_of}
-use Rattle.topo_model.specs.Star.{next_of}
-use Rattle.topo_model.specs.Ring.{walk as walk_half, ring_of as ring_of_half}
-use Rattle.topo_model.specs.Subdivision.{begins_ring as half_begins_ring}
-use Rattle.topo_model.proofs.Ordering.{InOrder, first_of}
-use Rattle.topo_model.proofs.ListTests.{contains_here, contains_there, contains_cases, Decides-all}
-use Rattle.topo_model.proofs.Members.{contains-map, contains-mapped, contains-filter, contains-filtered, Pairwise, pairwise-filter, ids_within, ids_differ}
-use Rattle.topo_model.proofs.PlainParts.{parts_of}
-use Rattle.topo_model.proofs.BlockedTests.{all_from}
+use Rattle.drawing.specs.Drawing.{Drawing, Edge, node_id_of, edge_id_of}
+use Rattle.drawing.specs.HalfEdge.{HalfEdge, forward_of, backward_of, both_ways, half_edges, same_half_edge, dart_of}
+use Rattle.drawing.specs.Star.{next_of}
+use Rattle.drawing.specs.Ring.{walk as walk_half, ring_of as ring_of_half}
+use Rattle.drawing.specs.Subdivision.{begins_ring as half_begins_ring}
+use Rattle.drawing.proofs.Ordering.{InOrder, first_of}
+use Rattle.plane.proofs.ListTests.{contains_here, contains_there, contains_cases, Decides-all}
+use Rattle.drawing.proofs.Members.{contains-map, contains-mapped, contains-filter, contains-filtered, Pairwise, pairwise-filter, ids_within, ids_differ}
+use Rattle.drawing.proofs.PlainParts.{parts_of}
+use Rattle.plane.proofs.LineTests.{all_from}
 use Rattle.face_rings.specs.declared.content.BorderDart.{BorderDart}
 use Rattle.face_rings.specs.Border.{dart_before, darts_ascend, darts_of, has_dart, next_dart, nexts_differ, are_linked}
 use Rattle.face_rings.specs.Rings.{walk, ring_of, begins_ring, rings}

@@ -7,21 +7,22 @@ use Rattle.std.proofs.lemmas.List.{length-reverse, reverse-reverse}
 use Rattle.topo_base.specs.Point.{Point}
 use Rattle.topo_base.specs.RationalPoint.{RationalPoint, IsAt}
 use Rattle.topo_base.specs.declared.rows.NodeRow.{NodeRow}
-use Rattle.topo_model.specs.Segment.{Segment}
-use Rattle.topo_model.specs.Line.{segments_of, first_vertex, last_vertex, is_proper}
-use Rattle.topo_model.specs.Drawing.{Drawing, Edge, edge_id_of, is_end_of}
-use Rattle.topo_model.specs.HalfEdge.{HalfEdge, forward_of, backward_of}
-use Rattle.topo_model.specs.RationalTests.{IsOn, IsOnLine, IsOnEdge}
-use Rattle.topo_model.specs.Relation.{SameCoordinates}
-use Rattle.topo_model.specs.Plain.{IsSimpleLine}
-use Rattle.topo_model.proofs.Ordering.{InOrder}
-use Rattle.topo_model.proofs.ListTests.{some_same}
-use Rattle.topo_model.proofs.Members.{Pairwise}
-use Rattle.topo_model.proofs.PlainParts.{HasPoint, ArePlain}
-use Rattle.topo_model.proofs.PlainSplits.{NodeIdsDiffer, id_point, end_cases}
-use Rattle.topo_model.proofs.SegmentParts.{segment, end_on}
-use Rattle.topo_model.proofs.LineCuts.{place_back, last_ends}
-use Rattle.topo_model.proofs.LineTurns.{first-reverse, last-reverse, reverse_on, reverse_simple, reverse_proper}
+use Rattle.plane.specs.Segment.{Segment}
+use Rattle.plane.specs.Line.{segments_of, first_vertex, last_vertex, is_proper}
+use Rattle.drawing.specs.Drawing.{Drawing, Edge, edge_id_of, is_end_of}
+use Rattle.drawing.specs.HalfEdge.{HalfEdge, forward_of, backward_of}
+use Rattle.plane.specs.RationalTests.{IsOn, IsOnLine}
+use Rattle.drawing.specs.DrawnPoints.{IsOnEdge}
+use Rattle.plane.specs.Relation.{SameCoordinates}
+use Rattle.plane.specs.SimpleLine.{IsSimpleLine}
+use Rattle.drawing.proofs.Ordering.{InOrder}
+use Rattle.plane.proofs.ListTests.{some_same}
+use Rattle.drawing.proofs.Members.{Pairwise}
+use Rattle.drawing.proofs.PlainParts.{HasPoint, ArePlain}
+use Rattle.drawing.proofs.PlainSplits.{NodeIdsDiffer, id_point, end_cases}
+use Rattle.plane.proofs.SegmentParts.{segment, end_on}
+use Rattle.plane.proofs.LineCuts.{place_back, last_ends}
+use Rattle.plane.proofs.LineTurns.{first-reverse, last-reverse, reverse_on, reverse_simple, reverse_proper}
 use Rattle.face_rings.proofs.Inside.{IsInside}
 
 -- ---- lines of two vertices or more

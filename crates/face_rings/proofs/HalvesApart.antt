@@ -6,23 +6,23 @@ use Rattle.std.proofs.lemmas.Bool.{and_parts, cases_eq}
 use Rattle.std.proofs.lemmas.List.{reverse-reverse}
 use Rattle.topo_base.specs.Point.{Point}
 use Rattle.topo_base.specs.RationalPoint.{RationalPoint, IsAt}
-use Rattle.topo_model.specs.Segment.{Segment}
-use Rattle.topo_model.specs.Line.{segments_of, first_vertex, last_vertex}
-use Rattle.topo_model.specs.Direction.{direction_to, first_direction, OneDirection}
-use Rattle.topo_model.specs.Drawing.{Drawing, Edge, edge_id_of, is_end_of}
-use Rattle.topo_model.specs.HalfEdge.{HalfEdge, forward_of, backward_of, both_ways, half_edges, twin}
-use Rattle.topo_model.specs.Star.{leaving}
-use Rattle.topo_model.specs.RationalTests.{IsOn, IsOnLine}
-use Rattle.topo_model.specs.Relation.{SameCoordinates}
-use Rattle.topo_model.specs.Plain.{IsSimpleLine}
-use Rattle.topo_model.proofs.Ring.{signed}
-use Rattle.topo_model.proofs.Directions.{one_turned}
-use Rattle.topo_model.proofs.ListTests.{some_same, contains_here, contains_there, contains_cases, contains_none}
-use Rattle.topo_model.proofs.Members.{pairwise-same, ids_differ}
-use Rattle.topo_model.proofs.PlainParts.{HasPoint}
-use Rattle.topo_model.proofs.PlainSplits.{one_point, id_point}
-use Rattle.topo_model.proofs.SegmentParts.{segment}
-use Rattle.topo_model.proofs.Collinear.{on_round}
+use Rattle.plane.specs.Segment.{Segment}
+use Rattle.plane.specs.Line.{segments_of, first_vertex, last_vertex}
+use Rattle.plane.specs.Direction.{direction_to, first_direction, OneDirection}
+use Rattle.drawing.specs.Drawing.{Drawing, Edge, edge_id_of, is_end_of}
+use Rattle.drawing.specs.HalfEdge.{HalfEdge, forward_of, backward_of, both_ways, half_edges, twin}
+use Rattle.drawing.specs.Star.{leaving}
+use Rattle.plane.specs.RationalTests.{IsOn, IsOnLine}
+use Rattle.plane.specs.Relation.{SameCoordinates}
+use Rattle.plane.specs.SimpleLine.{IsSimpleLine}
+use Rattle.plane.proofs.Ring.{signed}
+use Rattle.plane.proofs.Directions.{one_turned}
+use Rattle.plane.proofs.ListTests.{some_same, contains_here, contains_there, contains_cases, contains_none}
+use Rattle.drawing.proofs.Members.{pairwise-same, ids_differ}
+use Rattle.drawing.proofs.PlainParts.{HasPoint}
+use Rattle.drawing.proofs.PlainSplits.{one_point, id_point}
+use Rattle.plane.proofs.SegmentParts.{segment}
+use Rattle.plane.proofs.Collinear.{on_round}
 use Rattle.face_rings.proofs.Inside.{first_not_zero, inside_both}
 use Rattle.face_rings.proofs.HalfLines.{inner_on_first, inner_not_last, last_of_reverse, IsLineOf, HasPlainLines, forward_line, backward_line}
 

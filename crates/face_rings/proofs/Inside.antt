@@ -3,12 +3,12 @@ use Rattle.std.proofs.Common.{◌≡◌, ◌≢◌, refl, sym, subst, arith, ℤ
 use Rattle.std.proofs.Math.IntN.{zero-*ℤ}
 use Rattle.topo_base.specs.Point.{Point}
 use Rattle.topo_base.specs.RationalPoint.{RationalPoint, IsAt, IsBetween}
-use Rattle.topo_model.specs.Direction.{Direction, direction_to, dot, IsNotZero, OneDirection}
-use Rattle.topo_model.specs.RationalTests.{IsOn}
-use Rattle.topo_model.proofs.Ring.{multiplied, signed}
-use Rattle.topo_model.proofs.Signs.{mul_not_negative, mul_positive, no_zero_divisor, order, times_one}
-use Rattle.topo_model.proofs.SegmentParts.{segment}
-use Rattle.topo_model.proofs.Directions.{multiple_of_one}
+use Rattle.plane.specs.Direction.{Direction, direction_to, dot, IsNotZero, OneDirection}
+use Rattle.plane.specs.RationalTests.{IsOn}
+use Rattle.plane.proofs.Ring.{multiplied, signed}
+use Rattle.plane.proofs.Signs.{mul_not_negative, mul_positive, no_zero_divisor, order, times_one}
+use Rattle.plane.proofs.SegmentParts.{segment}
+use Rattle.plane.proofs.Directions.{multiple_of_one}
 
 -- ---- directions that are not zero
 pub first_not_zero : (u v : Direction) → OneDirection u v → IsNotZero u

@@ -10,5 +10,4 @@ pub mod HalfLines
 pub mod HalvesApart
 pub mod NextApart
 pub mod FaceBorders
-pub mod VerticesStay
 pub mod RowBorders

@@ -8,7 +8,7 @@ use Rattle.std.specs.declared.cmp.Ordering.{Ordering}
 use Rattle.std.specs.declared.cmp.Ordering.TheVariants.{Less, Equal, Greater}
 use Rattle.std.proofs.lemmas.Bool.{cases_lt}
 use Rattle.topo_base.specs.declared.ids.Dart.{Dart}
-use Rattle.topo_model.proofs.Members.{contains-mapped}
+use Rattle.drawing.proofs.Members.{contains-mapped}
 use Rattle.face_rings.specs.declared.content.BorderDart.{BorderDart}
 use Rattle.face_rings.specs.Border.{dart_order, darts_ascend, darts_of, next_dart}
 use Rattle.face_rings.proofs.Ranks.{order_equal, order_self, order_ascends, next_at}

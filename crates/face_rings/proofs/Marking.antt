@@ -7,7 +7,7 @@ use Rattle.std.proofs.lemmas.List.Elements.{filter_more, Contains-get_or}
 use Rattle.std.proofs.lemmas.List.Folds.{list_any_more}
 use Rattle.topo_base.specs.Darts.{same_dart}
 use Rattle.topo_base.specs.declared.ids.Dart.{Dart}
-use Rattle.topo_model.proofs.Members.{contains-mapped}
+use Rattle.drawing.proofs.Members.{contains-mapped}
 use Rattle.face_rings.specs.declared.content.BorderDart.{BorderDart}
 use Rattle.face_rings.specs.Border.{dart_before, darts_ascend, darts_of, has_dart}
 use Rattle.face_rings.specs.Rings.{ring_of, begins_ring, rings, Marks}

@@ -5,17 +5,17 @@ use Rattle.std.specs.List.{Contains, list_all}
 use Rattle.std.proofs.lemmas.Bool.{and_parts, and_from, eqb-true, eq-eqb, false≢true, false_from_ne_true, not-true}
 use Rattle.topo_base.specs.Point.{Point, same_point}
 use Rattle.topo_base.specs.declared.ids.Dart.{Dart}
-use Rattle.topo_model.specs.Line.{segments_of, is_proper}
-use Rattle.topo_model.specs.Direction.{Direction, first_direction, is_nearer, same_direction, IsNotZero, OneDirection}
-use Rattle.topo_model.specs.Drawing.{Drawing}
-use Rattle.topo_model.specs.HalfEdge.{HalfEdge, half_edges, twin, leaves, same_half_edge, dart_of}
-use Rattle.topo_model.specs.Star.{leaving, nearer_of, first_clockwise, or_twin, next_of}
-use Rattle.topo_model.proofs.Ring.{signed}
-use Rattle.topo_model.proofs.PointTests.{Decides-same_point}
+use Rattle.plane.specs.Line.{segments_of, is_proper}
+use Rattle.plane.specs.Direction.{Direction, first_direction, is_nearer, same_direction, IsNotZero, OneDirection}
+use Rattle.drawing.specs.Drawing.{Drawing}
+use Rattle.drawing.specs.HalfEdge.{HalfEdge, half_edges, twin, leaves, same_half_edge, dart_of}
+use Rattle.drawing.specs.Star.{leaving, nearer_of, first_clockwise, or_twin, next_of}
+use Rattle.plane.proofs.Ring.{signed}
+use Rattle.plane.proofs.PointTests.{Decides-same_point}
 use Rattle.std.proofs.lemmas.Bool.Decides.{Decides-not}
-use Rattle.topo_model.proofs.Directions.{nearer_self, nearer_onward, nearer_total, nearer_cyclic, same_out}
-use Rattle.topo_model.proofs.ListTests.{contains_here, contains_there, contains_cases, contains_none}
-use Rattle.topo_model.proofs.Members.{contains-filter, contains-filtered}
+use Rattle.plane.proofs.Directions.{nearer_self, nearer_onward, nearer_total, nearer_cyclic, same_out}
+use Rattle.plane.proofs.ListTests.{contains_here, contains_there, contains_cases, contains_none}
+use Rattle.drawing.proofs.Members.{contains-filter, contains-filtered}
 use Rattle.face_rings.proofs.Ranks.{by_bool, same_out as same_dart_out, same_self}
 use Rattle.face_rings.proofs.HalfLines.{HasPlainLines}
 use Rattle.face_rings.proofs.HalvesApart.{half_of, line_of, twin_there, directions_differ}

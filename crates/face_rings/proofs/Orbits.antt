@@ -10,8 +10,8 @@ use Rattle.std.proofs.lemmas.List.{length-map}
 use Rattle.std.proofs.lemmas.Map.Made.{length-le_from_is_member}
 use Rattle.topo_base.specs.Darts.{same_dart}
 use Rattle.topo_base.specs.declared.ids.Dart.{Dart}
-use Rattle.topo_model.proofs.ListTests.{contains_here, contains_there, contains_cases, contains_none, Decides-any, Decides-all}
-use Rattle.topo_model.proofs.Members.{Pairwise, pairwise-same}
+use Rattle.plane.proofs.ListTests.{contains_here, contains_there, contains_cases, contains_none, Decides-any, Decides-all}
+use Rattle.drawing.proofs.Members.{Pairwise, pairwise-same}
 use Rattle.face_rings.specs.declared.content.BorderDart.{BorderDart}
 use Rattle.face_rings.specs.Border.{has_dart, darts_of, next_dart, nexts_differ, are_linked}
 use Rattle.face_rings.proofs.Ranks.{by_bool, same_out, same_in, not_same, Decides-same_dart, same_dart_laws}

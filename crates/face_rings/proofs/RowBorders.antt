@@ -7,11 +7,11 @@ use Rattle.std.proofs.lemmas.List.Concat.{flat_map-append}
 use Rattle.topo_base.specs.Darts.{same_dart}
 use Rattle.topo_base.specs.declared.ids.Dart.{Dart}
 use Rattle.topo_base.specs.declared.rows.EdgeRow.{EdgeRow}
-use Rattle.topo_model.specs.Drawing.{Edge}
-use Rattle.topo_model.specs.HalfEdge.{HalfEdge, forward_of, backward_of, both_ways}
-use Rattle.topo_model.specs.Places.{rows_of, at_slot}
-use Rattle.topo_model.specs.Tables.{edge_row}
-use Rattle.topo_model.proofs.RowLemmas.{flat_map-places}
+use Rattle.drawing.specs.Drawing.{Edge}
+use Rattle.drawing.specs.HalfEdge.{HalfEdge, forward_of, backward_of, both_ways}
+use Rattle.drawing.specs.Places.{rows_of, at_slot}
+use Rattle.drawing.specs.Tables.{edge_row}
+use Rattle.drawing.proofs.RowLemmas.{flat_map-places}
 use Rattle.face_rings.specs.declared.content.BorderDart.{BorderDart}
 use Rattle.face_rings.specs.Border.{dart_before, darts_ascend}
 use Rattle.face_rings.specs.FaceBorder.{is_beside, border_dart}

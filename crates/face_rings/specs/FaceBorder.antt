@@ -1,13 +1,14 @@
 -- The border of a face of a drawing, and the law that its rings are those of the half-edges.
-use Rattle.std.specs.Prelude.{◌≡◌, ℕ, Bool, ◌==◌, nat_le, IsTrue, List, length, filter, map}
-use Rattle.std.specs.List.{list_all, Contains}
-use Rattle.topo_model.specs.Drawing.{Drawing, Edge}
-use Rattle.topo_model.specs.HalfEdge.{HalfEdge, half_edges, dart_of}
-use Rattle.topo_model.specs.Star.{next_of}
-use Rattle.topo_model.specs.Ring.{ring_of as ring_of_half}
-use Rattle.topo_model.specs.Subdivision.{begins_ring as half_begins_ring, rings_have_one_face}
-use Rattle.topo_model.specs.Tables.{tables_of}
-use Rattle.topo_model.specs.PlainLaw.{IsPlainInOrder}
+use Rattle.std.specs.Prelude.{◌≡◌, ℕ, Bool, ◌==◌, IsTrue, List, filter, map}
+use Rattle.std.specs.List.{Contains}
+use Rattle.drawing.specs.Drawing.{Drawing}
+use Rattle.drawing.specs.HalfEdge.{HalfEdge, half_edges, dart_of}
+use Rattle.drawing.specs.Star.{next_of}
+use Rattle.drawing.specs.Ring.{ring_of as ring_of_half}
+use Rattle.drawing.specs.Subdivision.{begins_ring as half_begins_ring, rings_have_one_face}
+use Rattle.drawing.specs.Tables.{tables_of}
+use Rattle.drawing.specs.PlainInOrder.{IsPlainInOrder}
+use Rattle.drawing.specs.Vertices.{have_segments}
 use Rattle.face_rings.specs.declared.content.BorderDart.{BorderDart}
 use Rattle.face_rings.specs.Border.{darts_ascend, are_linked}
 use Rattle.face_rings.specs.Rings.{ring_of, rings}
@@ -30,10 +31,6 @@ face_border hs f = map (border_dart hs) (beside hs f)
 -- its rings, each begun with its least half-edge
 abbrev pub rings_beside : List HalfEdge → ℕ → List (List HalfEdge)
 rings_beside hs f = map (ring_of_half hs) (filter (half_begins_ring hs) (beside hs f))
-
--- each line has two vertices or more
-abbrev pub have_segments : List Edge → Bool
-have_segments edges = list_all (λ (e : Edge). nat_le 2 (length e.geom)) edges
 
 -- the drawing is plain, its lines have two vertices or more, and its rings have one face each
 pub record HasRings (S : Drawing) : Type 0 where

@@ -3,4 +3,3 @@ pub mod Rings
 pub mod FaceBorder
 pub mod RowBorder
 pub mod RingLaw
-pub mod Vertices

@@ -34,7 +34,7 @@ impl Model for FaceContent {
 
 impl FaceContent {
     ghost use Rattle.std.specs.Prelude.{Contains, IfOk};
-    ghost use Rattle.topo_model.specs.Places.{rows_of};
+    ghost use Rattle.drawing.specs.Places.{rows_of};
     ghost use Rattle.face_rings.specs.Border.{darts_ascend, darts_of, next_dart};
     ghost use Rattle.face_rings.specs.RowBorder.{only_if, row_border, rows_border, with_next};
 

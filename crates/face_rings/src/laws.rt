@@ -2,7 +2,6 @@
 
 ghost use Rattle.face_rings.specs.FaceBorder.{RingsAreRight};
 ghost use Rattle.face_rings.specs.RingLaw.{RingsDivide};
-ghost use Rattle.face_rings.specs.Vertices.{SegmentsStay};
 
 /// On a plain drawing whose rings have one face each, the border of a face meets the conditions of
 /// `FaceContent::of_rows`, `ring_of` and `face_rings`: its darts ascend, next leads from each to one of
@@ -16,10 +15,4 @@ pub fn face_rings_law()
 /// no dart twice, and each dart is in exactly one of the rings.
 pub fn ring_law()
     ensures { RingsDivide }
-{}
-
-/// Each edit whose own line has two vertices or more keeps the drawing one of such lines, as
-/// `face_rings_law` asks. So the drawing of every legal history is.
-pub fn segments_law()
-    ensures { SegmentsStay }
 {}

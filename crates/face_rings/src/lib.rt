@@ -15,5 +15,5 @@ mod rings;
 mod tests;
 
 pub use content::{BorderDart, FaceContent};
-pub use laws::{face_rings_law, ring_law, segments_law};
+pub use laws::{face_rings_law, ring_law};
 pub use rings::{face_rings, ring_of};

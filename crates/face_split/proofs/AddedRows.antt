@@ -7,16 +7,16 @@ use Rattle.topo_base.specs.declared.rows.NodeRow.{NodeRow}
 use Rattle.topo_base.specs.declared.write.RowId.TheVariants.{Old}
 use Rattle.topo_base.specs.declared.write.RowWrite.{RowWrite}
 use Rattle.topo_base.specs.declared.write.RowWrite.TheVariants.{SetContaining}
-use Rattle.topo_model.proofs.TableLemmas.{list_any-map}
-use Rattle.topo_model.specs.Drawing.{Drawing, node_id_of, has_face, has_node}
-use Rattle.topo_model.specs.IsoEdits.{with_edge}
-use Rattle.topo_model.specs.Plain.{IsPlain}
-use Rattle.topo_model.specs.PlainLaw.{IsPlainInOrder}
-use Rattle.topo_model.specs.Rows.{has_row}
-use Rattle.topo_model.specs.Tables.{Tables, tables_of, face_row}
-use Rattle.topo_model.specs.Writable.{CanWriteAll, has_face_row}
-use Rattle.topo_model.specs.Writes.{all_written, edge_row_id}
-use Rattle.topo_model.proofs.WritesInOrder.{can_write-append}
+use Rattle.drawing.proofs.TableLemmas.{list_any-map}
+use Rattle.drawing.specs.Drawing.{Drawing, node_id_of, has_face, has_node}
+use Rattle.drawing.specs.IsoEdits.{with_edge}
+use Rattle.drawing.specs.Plain.{IsPlain}
+use Rattle.drawing.specs.PlainInOrder.{IsPlainInOrder}
+use Rattle.drawing.specs.Rows.{has_row}
+use Rattle.drawing.specs.Tables.{Tables, tables_of, face_row}
+use Rattle.drawing.specs.Writable.{CanWriteAll, has_face_row}
+use Rattle.drawing.specs.Writes.{all_written, edge_row_id}
+use Rattle.drawing.proofs.WritesInOrder.{can_write-append}
 use Rattle.edge_links.specs.LinksLaw.{HasDirections, link_writes_of, with_row}
 use Rattle.edge_links.proofs.RightLinks.{links_are_right}
 use Rattle.edit_conditions.proofs.IsolatedTests.{has_row-change}

@@ -1,8 +1,8 @@
 -- The features that list a face are features of the tables at every stage of a draft.
 use Rattle.std.proofs.Common.{ℕ}
-use Rattle.topo_model.specs.AddEdge.{Division}
-use Rattle.topo_model.specs.Drawing.{Drawing}
-use Rattle.topo_model.specs.Tables.{Tables}
+use Rattle.drawing.specs.AddEdge.{Division}
+use Rattle.drawing.specs.Drawing.{Drawing}
+use Rattle.drawing.specs.Tables.{Tables}
 use Rattle.face_parts.specs.DividedFace.{with_division}
 use Rattle.face_split.specs.Divided.{KnowsFeatures}
 

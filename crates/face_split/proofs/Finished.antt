@@ -5,13 +5,14 @@ use Rattle.std.proofs.lemmas.List.Elements.{Contains-push}
 use Rattle.topo_base.specs.Point.{Point}
 use Rattle.topo_base.specs.declared.ids.Dart.{Dart}
 use Rattle.topo_base.specs.declared.rows.NodeRow.{NodeRow}
-use Rattle.topo_model.specs.AddEdge.{coming}
-use Rattle.topo_model.specs.Drawing.{Drawing}
-use Rattle.topo_model.specs.HalfEdge.{forward_of}
-use Rattle.topo_model.specs.IsoEdits.{with_edge}
-use Rattle.topo_model.specs.Outcome.{Accepted, the_edge, the_face}
-use Rattle.topo_model.specs.Ring.{closed_segments, is_hole_walk, is_shell, ring_segments}
-use Rattle.topo_model.specs.Tables.{Tables, tables_of}
+use Rattle.drawing.specs.AddEdge.{coming}
+use Rattle.drawing.specs.Drawing.{Drawing}
+use Rattle.drawing.specs.HalfEdge.{forward_of}
+use Rattle.drawing.specs.IsoEdits.{with_edge}
+use Rattle.drawing.specs.Outcome.{Accepted, the_edge, the_face}
+use Rattle.plane.specs.ClosedWalk.{closed_segments, is_hole_walk}
+use Rattle.drawing.specs.Ring.{is_shell, ring_segments}
+use Rattle.drawing.specs.Tables.{Tables, tables_of}
 use Rattle.face_parts.specs.Paths.{IsRingOf}
 use Rattle.face_rings.specs.declared.content.BorderDart.{BorderDart}
 use Rattle.face_split.specs.Closing.{HasCut, HasRing, IsCut, IsRingOnLeft, WasAdded, in_one, in_parts, in_two, left_ring}

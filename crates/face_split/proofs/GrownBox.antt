@@ -3,12 +3,12 @@ use Rattle.std.proofs.Common.{◌≡◌, ℕ, List, refl, sym, ap, ◌∙◌, su
 use Rattle.topo_base.specs.Point.{Point}
 use Rattle.topo_base.specs.declared.rows.NodeRow.{NodeRow}
 use Rattle.topo_base.specs.declared.write.RowWrite.{RowWrite}
-use Rattle.topo_model.specs.AddEdge.{coming}
-use Rattle.topo_model.specs.Drawing.{Drawing}
-use Rattle.topo_model.specs.IsoEdits.{with_edge}
-use Rattle.topo_model.specs.Tables.{Tables, tables_of, drawn, face_box, face_row}
-use Rattle.topo_model.specs.Writable.{CanWriteAll}
-use Rattle.topo_model.specs.Writes.{all_written}
+use Rattle.drawing.specs.AddEdge.{coming}
+use Rattle.drawing.specs.Drawing.{Drawing}
+use Rattle.drawing.specs.IsoEdits.{with_edge}
+use Rattle.drawing.specs.Tables.{Tables, tables_of, drawn, face_box, face_row}
+use Rattle.drawing.specs.Writable.{CanWriteAll}
+use Rattle.drawing.specs.Writes.{all_written}
 use Rattle.face_boxes.specs.Bounds.{box_write}
 use Rattle.face_boxes.proofs.DividedBoxes.{kept_can, kept_written, others_added}
 use Rattle.face_split.specs.Closing.{HasEdgeIn, WasAdded}

@@ -5,13 +5,13 @@ use Rattle.std.proofs.Math.Seq.{drop-cons}
 use Rattle.std.proofs.lemmas.List.{drop_all}
 use Rattle.topo_base.specs.declared.rows.EdgeRow.{EdgeRow}
 use Rattle.topo_base.specs.declared.rows.NodeRow.{NodeRow}
-use Rattle.topo_model.specs.Direction.{Direction, is_nearer}
-use Rattle.topo_model.specs.Faces.{face_after, wedge_face}
-use Rattle.topo_model.specs.HalfEdge.{HalfEdge, forward_of, backward_of, both_ways, leaves}
-use Rattle.topo_model.specs.Places.{at_slot, rows_of}
-use Rattle.topo_model.specs.Star.{leaving, farther_of, last_clockwise}
-use Rattle.topo_model.specs.Tables.{Tables, drawn, drawn_edge}
-use Rattle.topo_model.proofs.RowLemmas.{flat_map-places}
+use Rattle.plane.specs.Direction.{Direction, is_nearer}
+use Rattle.drawing.specs.Faces.{face_after, wedge_face}
+use Rattle.drawing.specs.HalfEdge.{HalfEdge, forward_of, backward_of, both_ways, leaves}
+use Rattle.drawing.specs.Places.{at_slot, rows_of}
+use Rattle.drawing.specs.Star.{leaving, farther_of, last_clockwise}
+use Rattle.drawing.specs.Tables.{Tables, drawn, drawn_edge}
+use Rattle.drawing.proofs.RowLemmas.{flat_map-places}
 use Rattle.face_split.specs.declared.wedges.Wedge.{Wedge}
 use Rattle.face_split.specs.Wedges.{wedge_of, farther, last_with, last_from, only_if, wedges_in, wedges_at, face_of_last}
 

@@ -8,22 +8,22 @@ use Rattle.topo_base.specs.declared.rows.Box4.{Box4}
 use Rattle.topo_base.specs.declared.rows.FaceRow.{FaceRow}
 use Rattle.topo_base.specs.declared.rows.NodeRow.{NodeRow}
 use Rattle.topo_base.specs.declared.write.RowWrite.{RowWrite}
-use Rattle.topo_model.proofs.Ordering.{InOrder}
-use Rattle.topo_model.proofs.TableLemmas.{drawn-tables_of}
-use Rattle.topo_model.specs.AddEdge.{Division, coming, divided}
-use Rattle.topo_model.specs.Drawing.{Drawing, Edge}
-use Rattle.topo_model.specs.IsoEdits.{with_edge}
-use Rattle.topo_model.specs.Ring.{is_shell}
-use Rattle.topo_model.specs.Subdivision.{face_id_of}
-use Rattle.topo_model.specs.Tables.{Tables, tables_of, drawn, face_box}
-use Rattle.topo_model.specs.Writable.{CanWriteAll, has_face_row}
-use Rattle.topo_model.specs.Writes.{all_written}
-use Rattle.topo_model.specs.Content.{listing}
-use Rattle.topo_model.specs.Relations.{face_type, lists_element}
+use Rattle.drawing.proofs.Ordering.{InOrder}
+use Rattle.drawing.proofs.TableLemmas.{drawn-tables_of}
+use Rattle.drawing.specs.AddEdge.{Division, coming, divided}
+use Rattle.drawing.specs.Drawing.{Drawing, Edge}
+use Rattle.drawing.specs.IsoEdits.{with_edge}
+use Rattle.drawing.specs.Ring.{is_shell}
+use Rattle.drawing.specs.Subdivision.{face_id_of}
+use Rattle.drawing.specs.Tables.{Tables, tables_of, drawn, face_box}
+use Rattle.drawing.specs.Writable.{CanWriteAll, has_face_row}
+use Rattle.drawing.specs.Writes.{all_written}
+use Rattle.drawing.specs.Content.{listing}
+use Rattle.drawing.specs.Relations.{face_type, lists_element}
 use Rattle.ring_laws.specs.Ringed.{IsRinged}
 use Rattle.face_parts.specs.declared.parts.FaceParts.{FaceParts}
 use Rattle.std.specs.Prelude.{flat_map, if◌then◌else◌}
-use Rattle.topo_model.specs.Tables.{has_side, least_box}
+use Rattle.drawing.specs.Tables.{has_side, least_box}
 use Rattle.face_boxes.proofs.DividedBoxes.{ArePartsOf, one_can, one_written, others_of_division}
 use Rattle.face_parts.specs.DividedFace.{IsDividedFace, with_division}
 use Rattle.face_rings.specs.declared.content.BorderDart.{BorderDart}

@@ -6,24 +6,24 @@ use Rattle.std.proofs.lemmas.Bool.{and_parts}
 use Rattle.topo_base.specs.Point.{Point}
 use Rattle.topo_base.specs.declared.rows.NodeRow.{NodeRow}
 use Rattle.topo_base.specs.declared.rule.Rule.TheVariants.{LineEnds, LineNotSimple, LineBlocked}
-use Rattle.topo_model.specs.Apply.{apply, carried_out}
-use Rattle.topo_model.specs.Change.{Change}
-use Rattle.topo_model.specs.Decide.{edge_in_face}
-use Rattle.topo_model.proofs.Members.{contains-found}
-use Rattle.topo_model.proofs.PlainParts.{parts_of, plain_of}
-use Rattle.topo_model.proofs.PlainStaying.{HasPlain, edge_more}
-use Rattle.topo_model.specs.AddEdge.{coming, face_at_end, face_at_start}
-use Rattle.topo_model.specs.Edits.{add_edge, with_parts}
-use Rattle.topo_model.specs.Blocked.{goes_between, is_line_blocked}
-use Rattle.topo_model.specs.Drawing.{Drawing, Edge, has_face, node_at}
-use Rattle.topo_model.specs.HalfEdge.{backward_of}
-use Rattle.topo_model.specs.IsoEdits.{with_edge}
-use Rattle.topo_model.specs.Line.{is_proper, is_simple, segments_of}
-use Rattle.topo_model.specs.Outcome.{Accepted, Outcome}
-use Rattle.topo_model.specs.PlainLaw.{IsPlainInOrder}
-use Rattle.topo_model.specs.Ring.{contains_half_edge}
-use Rattle.topo_model.specs.Subdivision.{is_edge_known}
-use Rattle.topo_model.specs.Tables.{Tables}
+use Rattle.drawing.specs.Apply.{apply, carried_out}
+use Rattle.drawing.specs.Change.{Change}
+use Rattle.drawing.specs.Decide.{edge_in_face}
+use Rattle.drawing.proofs.Members.{contains-found}
+use Rattle.drawing.proofs.PlainParts.{parts_of, plain_of}
+use Rattle.edit_changes.proofs.PlainStaying.{HasPlain, edge_more}
+use Rattle.drawing.specs.AddEdge.{coming, face_at_end, face_at_start}
+use Rattle.drawing.specs.Edits.{add_edge, with_parts}
+use Rattle.drawing.specs.Blocked.{goes_between, is_line_blocked}
+use Rattle.drawing.specs.Drawing.{Drawing, Edge, has_face, node_at}
+use Rattle.drawing.specs.HalfEdge.{backward_of}
+use Rattle.drawing.specs.IsoEdits.{with_edge}
+use Rattle.plane.specs.Line.{is_proper, is_simple, segments_of}
+use Rattle.drawing.specs.Outcome.{Accepted, Outcome}
+use Rattle.drawing.specs.PlainInOrder.{IsPlainInOrder}
+use Rattle.drawing.specs.Ring.{contains_half_edge}
+use Rattle.drawing.specs.Subdivision.{is_edge_known}
+use Rattle.drawing.specs.Tables.{Tables}
 use Rattle.ring_laws.proofs.RingsStaying.{rings_stay}
 use Rattle.ring_laws.specs.Ringed.{IsRinged}
 use Rattle.face_split.specs.Added.{added_rows}

@@ -2,11 +2,11 @@
 use Rattle.std.proofs.Common.{◌≡◌, ℕ, Bool, true, false, List, [], ◌∷◌, map, filter, cond, IsTrue, refl, sym, ap, ◌∙◌, subst, eq-eqb, ⊎_elim}
 use Rattle.std.specs.List.{Contains, flat_map}
 use Rattle.topo_base.specs.declared.rows.EdgeRow.{EdgeRow}
-use Rattle.topo_model.proofs.ListTests.{contains_here, contains_there, contains_cases, contains_none}
-use Rattle.topo_model.specs.Drawing.{Drawing, Edge}
-use Rattle.topo_model.specs.HalfEdge.{HalfEdge, both_ways, dart_of, forward_of, backward_of, half_edges}
-use Rattle.topo_model.specs.Ring.{ring_of as the_ring_of}
-use Rattle.topo_model.specs.Tables.{Tables, drawn}
+use Rattle.plane.proofs.ListTests.{contains_here, contains_there, contains_cases, contains_none}
+use Rattle.drawing.specs.Drawing.{Drawing, Edge}
+use Rattle.drawing.specs.HalfEdge.{HalfEdge, both_ways, dart_of, forward_of, backward_of, half_edges}
+use Rattle.drawing.specs.Ring.{ring_of as the_ring_of}
+use Rattle.drawing.specs.Tables.{Tables, drawn}
 use Rattle.face_rings.specs.Border.{are_linked, darts_ascend, darts_of}
 use Rattle.face_rings.specs.FaceBorder.{border_dart, face_border, is_beside}
 use Rattle.face_rings.specs.Rings.{ring_of}

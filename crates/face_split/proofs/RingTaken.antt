@@ -5,14 +5,14 @@ use Rattle.topo_base.specs.Darts.{same_dart}
 use Rattle.topo_base.specs.Point.{Point}
 use Rattle.topo_base.specs.declared.ids.Dart.{Dart}
 use Rattle.topo_base.specs.declared.rows.NodeRow.{NodeRow}
-use Rattle.topo_model.proofs.TableLemmas.{drawn-tables_of, list_any-map}
-use Rattle.topo_model.specs.AddEdge.{coming}
-use Rattle.topo_model.specs.Drawing.{Drawing}
-use Rattle.topo_model.specs.HalfEdge.{backward_of, dart_of, forward_of, half_edges}
-use Rattle.topo_model.specs.IsoEdits.{with_edge}
-use Rattle.topo_model.specs.Outcome.{the_edge}
-use Rattle.topo_model.specs.Ring.{contains_half_edge, ring_of}
-use Rattle.topo_model.specs.Tables.{Tables, tables_of, drawn}
+use Rattle.drawing.proofs.TableLemmas.{drawn-tables_of, list_any-map}
+use Rattle.drawing.specs.AddEdge.{coming}
+use Rattle.drawing.specs.Drawing.{Drawing}
+use Rattle.drawing.specs.HalfEdge.{backward_of, dart_of, forward_of, half_edges}
+use Rattle.drawing.specs.IsoEdits.{with_edge}
+use Rattle.drawing.specs.Outcome.{the_edge}
+use Rattle.drawing.specs.Ring.{contains_half_edge, ring_of}
+use Rattle.drawing.specs.Tables.{Tables, tables_of, drawn}
 use Rattle.face_rings.specs.declared.content.BorderDart.{BorderDart}
 use Rattle.face_rings.specs.Border.{has_dart}
 use Rattle.face_rings.specs.FaceBorder.{face_border}

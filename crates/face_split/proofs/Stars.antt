@@ -6,11 +6,11 @@ use Rattle.std.proofs.lemmas.Bool.{and_from}
 use Rattle.topo_base.specs.Darts.{same_dart, same_way}
 use Rattle.topo_base.specs.Point.{Point}
 use Rattle.topo_base.specs.declared.ids.Dart.{Dart}
-use Rattle.topo_model.proofs.ListTests.{contains_here, contains_there, contains_cases}
-use Rattle.topo_model.specs.HalfEdge.{leaves, forward_of, backward_of}
+use Rattle.plane.proofs.ListTests.{contains_here, contains_there, contains_cases}
+use Rattle.drawing.specs.HalfEdge.{leaves, forward_of, backward_of}
 use Rattle.edge_links.specs.Rays.{Rays, edge_between, with_both, with_half_edge, with_ray, place_for}
-use Rattle.topo_model.specs.HalfEdge.{HalfEdge, dart_of}
-use Rattle.topo_model.specs.Star.{leaving}
+use Rattle.drawing.specs.HalfEdge.{HalfEdge, dart_of}
+use Rattle.drawing.specs.Star.{leaving}
 use Rattle.face_split.specs.Added.{from_node}
 
 -- ---- an element that is inserted, and those that were there

@@ -6,12 +6,12 @@ use Rattle.topo_base.specs.declared.rows.NodeRow.{NodeRow}
 use Rattle.topo_base.specs.declared.write.RowId.TheVariants.{Old}
 use Rattle.topo_base.specs.declared.write.RowWrite.{RowWrite}
 use Rattle.topo_base.specs.declared.write.RowWrite.TheVariants.{DropFace}
-use Rattle.topo_model.specs.AddEdge.{coming}
-use Rattle.topo_model.specs.Drawing.{Drawing}
-use Rattle.topo_model.specs.IsoEdits.{with_edge}
-use Rattle.topo_model.specs.Tables.{Tables, tables_of, face_row}
-use Rattle.topo_model.specs.Writable.{CanWriteAll}
-use Rattle.topo_model.specs.Writes.{all_written}
+use Rattle.drawing.specs.AddEdge.{coming}
+use Rattle.drawing.specs.Drawing.{Drawing}
+use Rattle.drawing.specs.IsoEdits.{with_edge}
+use Rattle.drawing.specs.Tables.{Tables, tables_of, face_row}
+use Rattle.drawing.specs.Writable.{CanWriteAll}
+use Rattle.drawing.specs.Writes.{all_written}
 use Rattle.face_boxes.proofs.DividedBoxes.{others_of_division, two_can, two_written}
 use Rattle.face_parts.specs.declared.parts.FaceParts.{FaceParts}
 use Rattle.face_parts.specs.DividedFace.{IsDividedFace, with_division}

@@ -7,9 +7,9 @@ use Rattle.topo_base.specs.declared.write.RowDart.{RowDart}
 use Rattle.topo_base.specs.declared.write.RowId.TheVariants.{Old}
 use Rattle.topo_base.specs.declared.write.RowWrite.{RowWrite}
 use Rattle.topo_base.specs.declared.write.RowWrite.TheVariants.{SetContaining}
-use Rattle.topo_model.specs.Drawing.{Drawing}
-use Rattle.topo_model.specs.IsoEdits.{with_edge}
-use Rattle.topo_model.specs.Tables.{Tables, tables_of, face_row}
+use Rattle.drawing.specs.Drawing.{Drawing}
+use Rattle.drawing.specs.IsoEdits.{with_edge}
+use Rattle.drawing.specs.Tables.{Tables, tables_of, face_row}
 use Rattle.edge_links.specs.Links.{links_round}
 use Rattle.edge_links.specs.LinksLaw.{rays_at, row_write, link_writes_of}
 

@@ -3,13 +3,14 @@ use Rattle.std.specs.Prelude.{◌≡◌, ℕ, ◌+◌, Bool, not, ◌&&◌, ◌=
 use Rattle.topo_base.specs.Point.{Point}
 use Rattle.topo_base.specs.declared.ids.Dart.{Dart}
 use Rattle.topo_base.specs.declared.rows.NodeRow.{NodeRow}
-use Rattle.topo_model.specs.AddEdge.{coming, divided, one_new, two_new}
-use Rattle.topo_model.specs.Drawing.{Drawing, has_face}
-use Rattle.topo_model.specs.HalfEdge.{HalfEdge, backward_of, dart_of, forward_of, half_edges}
-use Rattle.topo_model.specs.Outcome.{Accepted, the_edge, the_face}
-use Rattle.topo_model.specs.IsoEdits.{with_edge}
-use Rattle.topo_model.specs.Ring.{closed_segments, contains_half_edge, ring_of, ring_segments}
-use Rattle.topo_model.specs.Tables.{Tables}
+use Rattle.drawing.specs.AddEdge.{coming, divided, one_new, two_new}
+use Rattle.drawing.specs.Drawing.{Drawing, has_face}
+use Rattle.drawing.specs.HalfEdge.{HalfEdge, backward_of, dart_of, forward_of, half_edges}
+use Rattle.drawing.specs.Outcome.{Accepted, the_edge, the_face}
+use Rattle.drawing.specs.IsoEdits.{with_edge}
+use Rattle.plane.specs.ClosedWalk.{closed_segments}
+use Rattle.drawing.specs.Ring.{contains_half_edge, ring_of, ring_segments}
+use Rattle.drawing.specs.Tables.{Tables}
 use Rattle.face_parts.specs.declared.parts.FaceParts.{FaceParts}
 use Rattle.face_rings.specs.declared.content.BorderDart.{BorderDart}
 use Rattle.face_rings.specs.FaceBorder.{face_border}

@@ -4,12 +4,12 @@ use Rattle.topo_base.specs.Point.{Point}
 use Rattle.topo_base.specs.declared.rows.FaceRow.{FaceRow}
 use Rattle.topo_base.specs.declared.rows.FeatureRow.{FeatureRow}
 use Rattle.topo_base.specs.declared.write.RowWrite.{RowWrite}
-use Rattle.topo_model.specs.AddEdge.{Division}
-use Rattle.topo_model.specs.Content.{listing}
-use Rattle.topo_model.specs.Drawing.{Drawing, Edge}
-use Rattle.topo_model.specs.Relations.{face_type, follow, lists_element}
-use Rattle.topo_model.specs.Tables.{Tables, drawn, face_box}
-use Rattle.topo_model.specs.Writable.{has_face_row}
+use Rattle.drawing.specs.AddEdge.{Division}
+use Rattle.drawing.specs.Content.{listing}
+use Rattle.drawing.specs.Drawing.{Drawing, Edge}
+use Rattle.drawing.specs.Relations.{face_type, follow, lists_element}
+use Rattle.drawing.specs.Tables.{Tables, drawn, face_box}
+use Rattle.drawing.specs.Writable.{has_face_row}
 use Rattle.face_boxes.specs.Bounds.{box_write}
 use Rattle.face_parts.specs.declared.parts.FaceParts.{FaceParts}
 use Rattle.face_parts.specs.DividedFace.{IsDividedFace}

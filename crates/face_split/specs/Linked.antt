@@ -1,7 +1,7 @@
 -- Tables whose links are right, and an edge with its face.
 use Rattle.std.specs.Prelude.{◌≡◌, ℕ, Contains}
-use Rattle.topo_model.specs.Drawing.{Drawing, Edge}
-use Rattle.topo_model.specs.Tables.{Tables, tables_of, drawn}
+use Rattle.drawing.specs.Drawing.{Drawing, Edge}
+use Rattle.drawing.specs.Tables.{Tables, tables_of, drawn}
 use Rattle.ring_laws.specs.Ringed.{IsRinged}
 
 -- the links are those of the drawing, the rings of which have one face each

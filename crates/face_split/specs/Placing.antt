@@ -2,10 +2,10 @@
 use Rattle.std.specs.Prelude.{ℕ, IsTrue, Contains, List}
 use Rattle.topo_base.specs.Point.{Point}
 use Rattle.topo_base.specs.declared.rows.NodeRow.{NodeRow}
-use Rattle.topo_model.specs.Drawing.{Drawing}
-use Rattle.topo_model.specs.IsoEdits.{with_edge}
-use Rattle.topo_model.specs.LinePoints.{has_proper_segments}
-use Rattle.topo_model.specs.Plain.{IsPlain}
+use Rattle.drawing.specs.Drawing.{Drawing}
+use Rattle.drawing.specs.IsoEdits.{with_edge}
+use Rattle.plane.specs.LinePoints.{has_proper_segments}
+use Rattle.drawing.specs.Plain.{IsPlain}
 use Rattle.ring_laws.specs.Ringed.{LiesIn}
 
 -- the line may come between the nodes: it lies in the face at both ends, and the drawing with it is plain

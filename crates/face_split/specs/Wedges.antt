@@ -1,11 +1,11 @@
 -- The face of a line at a node from which it leaves, found row by row.
 use Rattle.std.specs.Prelude.{ℕ, Bool, ◌==◌, List, [], ◌∷◌, ◌++◌, flat_map, Option, Some, None, if◌then◌else◌}
 use Rattle.topo_base.specs.declared.rows.EdgeRow.{EdgeRow}
-use Rattle.topo_model.specs.Direction.{Direction, is_nearer}
-use Rattle.topo_model.specs.Drawing.{Edge}
-use Rattle.topo_model.specs.HalfEdge.{HalfEdge, forward_of, backward_of}
-use Rattle.topo_model.specs.Star.{leaving}
-use Rattle.topo_model.specs.Tables.{drawn_edge}
+use Rattle.plane.specs.Direction.{Direction, is_nearer}
+use Rattle.drawing.specs.Drawing.{Edge}
+use Rattle.drawing.specs.HalfEdge.{HalfEdge, forward_of, backward_of}
+use Rattle.drawing.specs.Star.{leaving}
+use Rattle.drawing.specs.Tables.{drawn_edge}
 use Rattle.face_split.specs.declared.wedges.Wedge.{Wedge}
 
 -- what is seen of a half-edge that leaves a node: its direction, and the face that follows it clockwise

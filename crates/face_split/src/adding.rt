@@ -2,12 +2,12 @@
 ghost use Rattle.std.specs.Prelude.{◌≡◌, ◌∷◌, ◌++◌, ℕ, [], false, true, None, IfOk, OnOk, Any, IsTrue};
 ghost use Rattle.topo_base.specs.Darts.{same_dart};
 ghost use Rattle.topo_base.specs.declared.rows.NodeRow.{NodeRow as NodeValue};
-ghost use Rattle.topo_model.specs.Drawing.{has_face, has_node};
-ghost use Rattle.topo_model.specs.IsoEdits.{with_edge};
-ghost use Rattle.topo_model.specs.LinePoints.{has_proper_segments};
-ghost use Rattle.topo_model.specs.Plain.{IsPlain};
-ghost use Rattle.topo_model.specs.PlainLaw.{IsPlainInOrder};
-ghost use Rattle.topo_model.specs.Tables.{drawn, tables_of};
+ghost use Rattle.drawing.specs.Drawing.{has_face, has_node};
+ghost use Rattle.drawing.specs.IsoEdits.{with_edge};
+ghost use Rattle.plane.specs.LinePoints.{has_proper_segments};
+ghost use Rattle.drawing.specs.Plain.{IsPlain};
+ghost use Rattle.drawing.specs.PlainInOrder.{IsPlainInOrder};
+ghost use Rattle.drawing.specs.Tables.{drawn, tables_of};
 ghost use Rattle.edge_links.specs.LinksLaw.{HasDirections, IsComing, rays_at};
 ghost use Rattle.read_set.specs.Drafted.{IsDraftOf};
 ghost use Rattle.face_split.specs.Added.{added_rows, added_writes, from_node, links_at, own_dart};

@@ -2,9 +2,9 @@
 ghost use Rattle.std.specs.Prelude.{◌≡◌, ℕ, ◌+◌, ◌∷◌, [], ◌==◌, false, IfOk, List, OnOk};
 ghost use Rattle.topo_base.specs.Point.{Point};
 ghost use Rattle.topo_base.specs.declared.rows.NodeRow.{NodeRow as NodeValue};
-ghost use Rattle.topo_model.specs.Drawing.{Drawing};
-ghost use Rattle.topo_model.specs.Ring.{is_shell as is_ring_shell};
-ghost use Rattle.topo_model.specs.Tables.{tables_of};
+ghost use Rattle.drawing.specs.Drawing.{Drawing};
+ghost use Rattle.drawing.specs.Ring.{is_shell as is_ring_shell};
+ghost use Rattle.drawing.specs.Tables.{tables_of};
 ghost use Rattle.read_set.specs.Drafted.{IsDraftOf};
 ghost use Rattle.face_split.specs.Closing.{HasCut, IsCut, WasAdded, in_one, in_two, left_ring, one_part, two_parts};
 

@@ -1,9 +1,9 @@
 // A face that is divided by an edge that came.
 ghost use Rattle.std.specs.Prelude.{◌≡◌, ◌∷◌, ◌++◌, ◌+◌, ◌<◌, ◌^◌, [], IfOk, OnOk, IsTrue};
-ghost use Rattle.topo_model.specs.AddEdge.{Division};
-ghost use Rattle.topo_model.specs.Drawing.{Drawing, Edge};
-ghost use Rattle.topo_model.specs.Tables.{drawn, face_box};
-ghost use Rattle.topo_model.specs.Writable.{has_face_row};
+ghost use Rattle.drawing.specs.AddEdge.{Division};
+ghost use Rattle.drawing.specs.Drawing.{Drawing, Edge};
+ghost use Rattle.drawing.specs.Tables.{drawn, face_box};
+ghost use Rattle.drawing.specs.Writable.{has_face_row};
 ghost use Rattle.face_boxes.specs.Bounds.{box_write};
 ghost use Rattle.face_parts.specs.DividedFace.{IsDividedFace, with_division};
 ghost use Rattle.face_rings.specs.Border.{are_linked};

@@ -2,9 +2,9 @@
 ghost use Rattle.std.specs.Prelude.{◌≡◌, ◌==◌, ◌&&◌, not, ◌+◌, ◌<◌, ◌^◌, ◌∷◌, [], IfOk, List, OnOk};
 ghost use Rattle.topo_base.specs.Point.{Point};
 ghost use Rattle.topo_base.specs.declared.rows.NodeRow.{NodeRow as NodeValue};
-ghost use Rattle.topo_model.specs.Drawing.{Drawing};
-ghost use Rattle.topo_model.specs.IsoEdits.{with_edge};
-ghost use Rattle.topo_model.specs.Tables.{tables_of};
+ghost use Rattle.drawing.specs.Drawing.{Drawing};
+ghost use Rattle.drawing.specs.IsoEdits.{with_edge};
+ghost use Rattle.drawing.specs.Tables.{tables_of};
 ghost use Rattle.read_set.specs.Drafted.{IsDraftOf};
 ghost use Rattle.face_split.specs.Closing.{HasAdded, HasEdgeIn, HasRing, IsRingOnLeft, WasAdded, in_parts, with_edge_in};
 

@@ -1,13 +1,13 @@
 // Plans of added edges.
 ghost use Rattle.std.specs.Prelude.{◌≡◌, ◌==◌, ◌||◌, not, true, false, IfOk, IsTrue};
-ghost use Rattle.topo_model.specs.AddEdge.{face_at_end as face_where_it_ends};
-ghost use Rattle.topo_model.specs.Edits.{add_edge};
-ghost use Rattle.topo_model.specs.Blocked.{is_line_blocked as is_blocked_line};
-ghost use Rattle.topo_model.specs.Drawing.{node_at};
-ghost use Rattle.topo_model.specs.LinePoints.{has_proper_segments};
-ghost use Rattle.topo_model.specs.Plain.{IsPlain};
-ghost use Rattle.topo_model.specs.Step.{step};
-ghost use Rattle.topo_model.specs.Tables.{drawn, tables_of};
+ghost use Rattle.drawing.specs.AddEdge.{face_at_end as face_where_it_ends};
+ghost use Rattle.drawing.specs.Edits.{add_edge};
+ghost use Rattle.drawing.specs.Blocked.{is_line_blocked as is_blocked_line};
+ghost use Rattle.drawing.specs.Drawing.{node_at};
+ghost use Rattle.plane.specs.LinePoints.{has_proper_segments};
+ghost use Rattle.drawing.specs.Plain.{IsPlain};
+ghost use Rattle.drawing.specs.Step.{step};
+ghost use Rattle.drawing.specs.Tables.{drawn, tables_of};
 ghost use Rattle.read_set.specs.Answered.{IsAnswered};
 ghost use Rattle.read_set.specs.Planned.{IsEditor};
 ghost use Rattle.read_set.specs.Edited.{AnswersOutcome, IsEdited};

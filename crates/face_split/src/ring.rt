@@ -1,9 +1,9 @@
 // The border of a face, and the ring on the left of an edge.
 ghost use Rattle.std.specs.Prelude.{◌≡◌, map, IfOk};
-ghost use Rattle.topo_model.specs.Drawing.{Edge};
-ghost use Rattle.topo_model.specs.HalfEdge.{dart_of, forward_of, half_edges};
-ghost use Rattle.topo_model.specs.Ring.{ring_of as the_ring_of};
-ghost use Rattle.topo_model.specs.Tables.{drawn};
+ghost use Rattle.drawing.specs.Drawing.{Edge};
+ghost use Rattle.drawing.specs.HalfEdge.{dart_of, forward_of, half_edges};
+ghost use Rattle.drawing.specs.Ring.{ring_of as the_ring_of};
+ghost use Rattle.drawing.specs.Tables.{drawn};
 ghost use Rattle.face_rings.specs.FaceBorder.{face_border};
 ghost use Rattle.face_split.specs.Linked.{HasEdgeBeside, IsEdgeBeside, IsLinked};
 

@@ -2,13 +2,13 @@
 
 ghost use Rattle.std.specs.Prelude.{◌≡◌, ◌==◌, None, IsTrue};
 ghost use Rattle.std.specs.List.{list_all};
-ghost use Rattle.topo_model.specs.AddEdge.{face_at_end as end_face, face_at_start as start_face};
-ghost use Rattle.topo_model.specs.Faces.{wedge_face};
-ghost use Rattle.topo_model.specs.HalfEdge.{backward_of, forward_of};
-ghost use Rattle.topo_model.specs.LinePoints.{has_proper_segments};
-ghost use Rattle.topo_model.specs.Places.{at_slot, rows_of};
-ghost use Rattle.topo_model.specs.Plain.{IsPlain};
-ghost use Rattle.topo_model.specs.Tables.{drawn, drawn_edge};
+ghost use Rattle.drawing.specs.AddEdge.{face_at_end as end_face, face_at_start as start_face};
+ghost use Rattle.drawing.specs.Faces.{wedge_face};
+ghost use Rattle.drawing.specs.HalfEdge.{backward_of, forward_of};
+ghost use Rattle.plane.specs.LinePoints.{has_proper_segments};
+ghost use Rattle.drawing.specs.Places.{at_slot, rows_of};
+ghost use Rattle.drawing.specs.Plain.{IsPlain};
+ghost use Rattle.drawing.specs.Tables.{drawn, drawn_edge};
 ghost use Rattle.edge_links.specs.Rays.{has_proper_line, in_each_slot};
 ghost use Rattle.face_split.specs.Wedges.{face_of_last, farther as farther_wedge, last_from, last_with, only_if, wedge_of, wedges_at, wedges_in};
 

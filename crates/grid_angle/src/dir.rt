@@ -1,6 +1,6 @@
 ghost use Rattle.std.specs.Prelude.{◌≡◌, ◌↔◌, ◌^◌, ◌-ℤ◌, IsNone, IsSome, IfSome};
 ghost use Rattle.topo_base.specs.Within.{IsWithin};
-ghost use Rattle.topo_model.specs.Direction.{cross, direction_to, dot, IsGridDirection, IsNotZero, straight_up};
+ghost use Rattle.plane.specs.Direction.{cross, direction_to, dot, IsGridDirection, IsNotZero, straight_up};
 
 use std::marker::Model;
 use topo_base::{Grid, cross_product, product};
@@ -16,7 +16,7 @@ pub struct Dir {
 }
 
 impl Model for Dir {
-    ghost use Rattle.topo_model.specs.Direction.{Direction, IsGridDirection};
+    ghost use Rattle.plane.specs.Direction.{Direction, IsGridDirection};
 
     ghost Value = { Direction };
 

@@ -1,7 +1,7 @@
 ghost use Rattle.std.specs.Prelude.{◌≡◌, ◌↔◌, IsTrue};
 ghost use Rattle.std.specs.declared.cmp.Ordering.TheVariants.{Less, Equal, Greater};
 ghost use Rattle.grid_angle.specs.Quarters.{quarter_number};
-ghost use Rattle.topo_model.specs.Direction.{is_nearer, nearer_by, quarter, IsNotZero, OneDirection};
+ghost use Rattle.plane.specs.Direction.{is_nearer, nearer_by, quarter, IsNotZero, OneDirection};
 
 use crate::Dir;
 use crate::dir::{cross_of, dot_of};

@@ -1,6 +1,6 @@
 ghost use Rattle.std.specs.Prelude.{◌≡◌, ◌↔◌, ◌<◌, length, Any, IfSome, IsNone, IsTrue};
-ghost use Rattle.topo_model.specs.Direction.{OneDirection};
-ghost use Rattle.topo_model.specs.Wedge.{in_clockwise_order, IsLastBefore};
+ghost use Rattle.plane.specs.Direction.{OneDirection};
+ghost use Rattle.plane.specs.Wedge.{in_clockwise_order, IsLastBefore};
 
 use crate::{Dir, clockwise};
 use std::cmp::Ordering;

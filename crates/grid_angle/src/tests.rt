@@ -1,7 +1,7 @@
 //! Sharp cases of the order about a point.
 
 ghost use Rattle.std.specs.Prelude.{◌≡◌};
-ghost use Rattle.topo_model.specs.Direction.{IsGridDirection};
+ghost use Rattle.plane.specs.Direction.{IsGridDirection};
 
 use crate::{Dir, clockwise, wedge};
 use std::cmp::Ordering;

@@ -3,14 +3,14 @@ use Rattle.std.proofs.Common.{◌≡◌, ◌≢◌, sym, ◌∙◌, ap, arith, �
 use Rattle.std.specs.Prelude.{neg_ℤ}
 use Rattle.topo_base.specs.Point.{Point}
 use Rattle.topo_base.specs.RationalPoint.{RationalPoint, rational, IsBetween}
-use Rattle.topo_model.specs.Segment.{Segment}
-use Rattle.topo_model.specs.RationalTests.{IsOn, area_at}
-use Rattle.topo_model.specs.Relation.{IsProper}
-use Rattle.topo_model.proofs.Ring.{multiplied, signed, mul_comm}
-use Rattle.topo_model.proofs.Signs.{mul_le, mul_not_negative, mul_positive, no_zero_divisor, order}
-use Rattle.topo_model.proofs.Points.{point_straight, point_across, point_upward}
-use Rattle.topo_model.proofs.Reaching.{apart_in}
-use Rattle.topo_model.proofs.Collinear.{on_round}
+use Rattle.plane.specs.Segment.{Segment}
+use Rattle.plane.specs.RationalTests.{IsOn, area_at}
+use Rattle.plane.specs.Relation.{IsProper}
+use Rattle.plane.proofs.Ring.{multiplied, signed, mul_comm}
+use Rattle.plane.proofs.Signs.{mul_le, mul_not_negative, mul_positive, no_zero_divisor, order}
+use Rattle.plane.proofs.Points.{point_straight, point_across, point_upward}
+use Rattle.plane.proofs.Reaching.{apart_in}
+use Rattle.plane.proofs.Collinear.{on_round}
 
 -- ---- what is parallel to one direction
 parallel : (ux uy vx vy wx wy : ℤ) → (ux ≢ pos 0) ⊎ (uy ≢ pos 0) → ux *ℤ vy ≡ uy *ℤ vx → ux *ℤ wy ≡ uy *ℤ wx → vx *ℤ wy -ℤ vy *ℤ wx ≡ pos 0

@@ -2,10 +2,10 @@
 use Rattle.std.proofs.Common.{◌≡◌, ◌↔◌, sym, subst, ◌⊎◌, inl, inr, ⊎_elim, List, [], ◌∷◌, ◌++◌, ◌<◌, length, arith}
 use Rattle.topo_base.specs.Point.{Point}
 use Rattle.topo_base.specs.RationalPoint.{RationalPoint}
-use Rattle.topo_model.specs.Segment.{Segment}
-use Rattle.topo_model.specs.Line.{segments_of, first_vertex, last_vertex, joined}
-use Rattle.topo_model.specs.RationalTests.{IsOn, IsOnLine}
-use Rattle.topo_model.proofs.ListTests.{contains_none}
+use Rattle.plane.specs.Segment.{Segment}
+use Rattle.plane.specs.Line.{segments_of, first_vertex, last_vertex, joined}
+use Rattle.plane.specs.RationalTests.{IsOn, IsOnLine}
+use Rattle.plane.proofs.ListTests.{contains_none}
 use Rattle.grid_lines.proofs.LinesMeeting.{on_more, more_on, here_on}
 
 abbrev Both : RationalPoint → List Point → List Point → List Point → Type 0

@@ -7,17 +7,17 @@ use Rattle.topo_base.specs.Point.{Point, same_point}
 use Rattle.topo_base.specs.RationalPoint.{RationalPoint, rational, IsAt, SamePoint}
 use Rattle.topo_base.specs.declared.meeting.Meeting.{Meeting}
 use Rattle.topo_base.specs.declared.meeting.Meeting.TheVariants.{Apart, AtEnds, Inside}
-use Rattle.topo_model.specs.Segment.{Segment, on_segment, shares}
-use Rattle.topo_model.specs.Line.{first_vertex, last_vertex, is_line_end}
-use Rattle.topo_model.specs.LinePoints.{IsAtLineEnd, IsAtBothEnds, MeetsAs}
-use Rattle.topo_model.specs.RationalTests.{IsOn}
-use Rattle.topo_model.specs.Relation.{IsShared, IsOnlyShared, AreApart, HaveMore, SameCoordinates}
-use Rattle.topo_model.proofs.Relations.{same_end}
-use Rattle.topo_model.proofs.Collinear.{at_point}
-use Rattle.topo_model.proofs.Middle.{on_at, at_same, another}
-use Rattle.topo_model.proofs.PointTests.{Decides-same_point, Decides-on_segment}
-use Rattle.topo_model.proofs.MeetTests.{same_through}
-use Rattle.topo_model.proofs.ListTests.{contains_here, contains_there, contains_cases, contains_none}
+use Rattle.plane.specs.Segment.{Segment, on_segment, shares}
+use Rattle.plane.specs.Line.{first_vertex, last_vertex, is_line_end}
+use Rattle.plane.specs.LinePoints.{IsAtLineEnd, IsAtBothEnds, MeetsAs}
+use Rattle.plane.specs.RationalTests.{IsOn}
+use Rattle.plane.specs.Relation.{IsShared, IsOnlyShared, AreApart, HaveMore, SameCoordinates}
+use Rattle.plane.proofs.Relations.{same_end}
+use Rattle.plane.proofs.Collinear.{at_point}
+use Rattle.plane.proofs.Middle.{on_at, at_same, another}
+use Rattle.plane.proofs.PointTests.{Decides-same_point, Decides-on_segment}
+use Rattle.plane.proofs.MeetTests.{same_through}
+use Rattle.plane.proofs.ListTests.{contains_here, contains_there, contains_cases, contains_none}
 use Rattle.grid_lines.specs.Parts.{IsOnSome, IsOnBothParts, PartsMeet, combined, is_common_end, share_line_end}
 use Rattle.grid_lines.proofs.Links.{at_moved}
 

@@ -5,12 +5,12 @@ use Rattle.topo_base.specs.Point.{Point, same_point}
 use Rattle.topo_base.specs.RationalPoint.{RationalPoint, IsAt}
 use Rattle.topo_base.specs.declared.relation.Relation.{Relation}
 use Rattle.topo_base.specs.declared.relation.Relation.TheVariants.{Apart, TouchEnds, Meet, Overlap}
-use Rattle.topo_model.specs.Segment.{Segment, touches, touches_at}
-use Rattle.topo_model.specs.Line.{joins}
-use Rattle.topo_model.specs.Relation.{SameCoordinates, Relates}
-use Rattle.topo_model.proofs.Relations.{joined}
-use Rattle.topo_model.proofs.PointTests.{Decides-same_point}
-use Rattle.topo_model.proofs.RelationTests.{has_common, is_touch_ends, touches_is, touches_at_end}
+use Rattle.plane.specs.Segment.{Segment, touches, touches_at}
+use Rattle.plane.specs.Line.{joins}
+use Rattle.plane.specs.Relation.{SameCoordinates, Relates}
+use Rattle.plane.proofs.Relations.{joined}
+use Rattle.plane.proofs.PointTests.{Decides-same_point}
+use Rattle.plane.proofs.RelationTests.{has_common, is_touch_ends, touches_is, touches_at_end}
 
 pub at_moved : (a p : Point) (q : RationalPoint) → SameCoordinates a p → IsAt p q → IsAt a q
 at_moved a p q e h = (h.0 ∙ ap (λ z. z *ℤ q.d) (sym e.0), h.1 ∙ ap (λ z. z *ℤ q.d) (sym e.1))

@@ -6,13 +6,13 @@ use Rattle.std.proofs.lemmas.Bool.{cases_Bool, and_parts, cases_lt}
 use Rattle.std.proofs.lemmas.Bool.Decides.{not_from_Decides}
 use Rattle.topo_base.specs.Point.{Point, same_point}
 use Rattle.topo_base.specs.RationalPoint.{RationalPoint, rational}
-use Rattle.topo_model.specs.Segment.{Segment, on_segment}
-use Rattle.topo_model.specs.Line.{segments_of, first_vertex, last_vertex, is_proper, on_line, is_line_end, line_up_to, line_from}
-use Rattle.topo_model.specs.RationalTests.{IsOn, IsOnLine}
-use Rattle.topo_model.specs.Relation.{IsProper, SameCoordinates}
-use Rattle.topo_model.proofs.PointTests.{Decides-same_point, Decides-on_segment}
-use Rattle.topo_model.proofs.Relations.{on_end}
-use Rattle.topo_model.proofs.SimpleTests.{Decides-proper}
+use Rattle.plane.specs.Segment.{Segment, on_segment}
+use Rattle.plane.specs.Line.{segments_of, first_vertex, last_vertex, is_proper, on_line, is_line_end, line_up_to, line_from}
+use Rattle.plane.specs.RationalTests.{IsOn, IsOnLine}
+use Rattle.plane.specs.Relation.{IsProper, SameCoordinates}
+use Rattle.plane.proofs.PointTests.{Decides-same_point, Decides-on_segment}
+use Rattle.plane.proofs.Relations.{on_end}
+use Rattle.plane.proofs.SimpleTests.{Decides-proper}
 use Rattle.grid_lines.proofs.Vertices.{ends_at, segments_end}
 use Rattle.grid_lines.proofs.LinesMeeting.{on_one, one_on, on_more, more_on, here_on}
 use Rattle.grid_lines.proofs.Dividing.{part_on, first_on, second_on}

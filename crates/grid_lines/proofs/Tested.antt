@@ -3,10 +3,10 @@ use Rattle.std.proofs.Common.{◌≡◌, ℕ, ◌+◌, ◌≤◌, refl, sym, ◌
 use Rattle.std.specs.List.{list_all, list_any}
 use Rattle.topo_base.specs.Point.{Point}
 use Rattle.topo_base.specs.declared.relation.Relation.TheVariants.{Apart, TouchEnds, Meet, Overlap}
-use Rattle.topo_model.specs.Segment.{Segment, meets_only_at, shares}
-use Rattle.topo_model.specs.Line.{segments_of}
-use Rattle.topo_model.specs.Relation.{Relates}
-use Rattle.topo_model.proofs.RelationTests.{meets_only_at_is}
+use Rattle.plane.specs.Segment.{Segment, meets_only_at, shares}
+use Rattle.plane.specs.Line.{segments_of}
+use Rattle.plane.specs.Relation.{Relates}
+use Rattle.plane.proofs.RelationTests.{meets_only_at_is}
 use Rattle.grid_lines.proofs.Vertices.{segments_end}
 
 pub any_on : (f : Segment → Bool) (vs : List Point) (i : ℕ) (s : Segment) → segments_of (drop i vs) ≡ s ∷ segments_of (drop (i + 1) vs) → f s ≡ false

@@ -3,10 +3,10 @@ use Rattle.std.proofs.Common.{◌≡◌, ◌≢◌, ℕ, ◌+◌, ◌<◌, ◌�
 use Rattle.std.specs.List.{list_all}
 use Rattle.std.proofs.lemmas.Bool.{and_parts, cases_lt}
 use Rattle.topo_base.specs.Point.{Point, same_point}
-use Rattle.topo_model.specs.Segment.{Segment, touches}
-use Rattle.topo_model.specs.Line.{segments_of, first_vertex, last_vertex, is_proper, joins, is_apart_from, are_simple}
+use Rattle.plane.specs.Segment.{Segment, touches}
+use Rattle.plane.specs.Line.{segments_of, first_vertex, last_vertex, is_proper, joins, is_apart_from, are_simple}
 use Rattle.grid_lines.proofs.Links.{is_apart_or_closes}
-use Rattle.topo_model.proofs.PointTests.{Decides-same_point}
+use Rattle.plane.proofs.PointTests.{Decides-same_point}
 
 segments_suc : (vs : List Point) (i : ℕ) → suc i < length vs
     → segments_of (drop i vs) ≡ record { a = first_vertex (drop i vs); b = first_vertex (drop (suc i) vs) } ∷ segments_of (drop (suc i) vs)

@@ -4,10 +4,10 @@ use Rattle.topo_base.specs.Point.{Point}
 use Rattle.topo_base.specs.RationalPoint.{RationalPoint}
 use Rattle.topo_base.specs.declared.meeting.Meeting.{Meeting}
 use Rattle.topo_base.specs.declared.meeting.Meeting.TheVariants.{Apart, AtEnds, Inside}
-use Rattle.topo_model.specs.Segment.{Segment, shares}
-use Rattle.topo_model.specs.Line.{first_vertex, last_vertex, is_line_end}
-use Rattle.topo_model.specs.LinePoints.{IsAtBothEnds, MeetsAs}
-use Rattle.topo_model.specs.RationalTests.{IsOn}
+use Rattle.plane.specs.Segment.{Segment, shares}
+use Rattle.plane.specs.Line.{first_vertex, last_vertex, is_line_end}
+use Rattle.plane.specs.LinePoints.{IsAtBothEnds, MeetsAs}
+use Rattle.plane.specs.RationalTests.{IsOn}
 
 -- q lies on one of these segments; on one of each
 abbrev pub IsOnSome : RationalPoint → List Segment → Type 0

@@ -1,7 +1,7 @@
 ghost use Rattle.std.specs.Prelude.{◌≡◌, ◌↔◌, ◌⊎◌, IfOk};
 ghost use Rattle.topo_base.specs.RationalPoint.{RationalPoint};
-ghost use Rattle.topo_model.specs.Line.{first_vertex, joined, last_vertex};
-ghost use Rattle.topo_model.specs.RationalTests.{IsOnLine};
+ghost use Rattle.plane.specs.Line.{first_vertex, joined, last_vertex};
+ghost use Rattle.plane.specs.RationalTests.{IsOnLine};
 
 use std::alloc::Global;
 use topo_base::{Line, Memory};

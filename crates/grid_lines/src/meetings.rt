@@ -1,8 +1,8 @@
 ghost use Rattle.std.specs.Prelude.{◌≡◌, ◌+◌, ◌*◌, ◌≤◌, [], ◌∷◌, ◌&&◌, IsTrue, length};
 ghost use Rattle.topo_base.specs.RationalPoint.{RationalPoint};
-ghost use Rattle.topo_model.specs.Relation.{IsOnlyShared};
-ghost use Rattle.topo_model.specs.Line.{is_line_end, segments_of};
-ghost use Rattle.topo_model.specs.LinePoints.{Meets, has_proper_segments};
+ghost use Rattle.plane.specs.Relation.{IsOnlyShared};
+ghost use Rattle.plane.specs.Line.{is_line_end, segments_of};
+ghost use Rattle.plane.specs.LinePoints.{Meets, has_proper_segments};
 ghost use Rattle.grid_lines.specs.Parts.{PartsMeet, combined, is_common_end, share_line_end};
 
 use crate::proper::{first_of, is_same_point, last_of, segment};

@@ -1,8 +1,8 @@
 ghost use Rattle.std.specs.Prelude.{◌≡◌, ◌+◌, ◌*◌, ◌≤◌, ◌||◌, IsTrue, length};
 ghost use Rattle.std.specs.List.{list_all};
-ghost use Rattle.topo_model.specs.Line.{meets_at_own_ends, first_vertex, last_vertex, segments_of};
-ghost use Rattle.topo_model.specs.LinePoints.{has_proper_segments};
-ghost use Rattle.topo_model.specs.Segment.{meets_only_at, shares};
+ghost use Rattle.plane.specs.Line.{meets_at_own_ends, first_vertex, last_vertex, segments_of};
+ghost use Rattle.plane.specs.LinePoints.{has_proper_segments};
+ghost use Rattle.plane.specs.Segment.{meets_only_at, shares};
 
 use crate::proper::{first_of, last_of, segment};
 use grid_segments::{Relation, Seg, on_segment, relate};

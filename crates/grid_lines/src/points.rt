@@ -1,6 +1,6 @@
 ghost use Rattle.std.specs.Prelude.{◌≡◌, ◌+◌, ◌≤◌, IsTrue, length};
-ghost use Rattle.topo_model.specs.Line.{on_line, is_inside_line};
-ghost use Rattle.topo_model.specs.LinePoints.{has_proper_segments};
+ghost use Rattle.plane.specs.Line.{on_line, is_inside_line};
+ghost use Rattle.plane.specs.LinePoints.{has_proper_segments};
 
 use crate::meetings::is_line_end;
 use crate::proper::segment;

@@ -1,7 +1,7 @@
 ghost use Rattle.std.specs.Prelude.{◌≡◌, ◌+◌, ◌<◌, ◌∷◌, IsTrue, drop, length};
 ghost use Rattle.topo_base.specs.Point.{same_point};
-ghost use Rattle.topo_model.specs.Line.{first_vertex, last_vertex, segments_of};
-ghost use Rattle.topo_model.specs.LinePoints.{has_proper_segments};
+ghost use Rattle.plane.specs.Line.{first_vertex, last_vertex, segments_of};
+ghost use Rattle.plane.specs.LinePoints.{has_proper_segments};
 
 use grid_segments::Seg;
 use topo_base::{Grid, Line};

@@ -1,8 +1,8 @@
 ghost use Rattle.std.specs.Prelude.{◌≡◌, ◌↔◌, ◌+◌, ◌*◌, ◌≤◌, ◌<◌, ◌∷◌, ◌&&◌, ◌||◌, not, IsTrue, drop, length};
 ghost use Rattle.topo_base.specs.Point.{same_point};
-ghost use Rattle.topo_model.specs.Line.{are_simple, first_vertex, is_apart_from, is_simple, joins, segments_of};
-ghost use Rattle.topo_model.specs.LinePoints.{IsPlainLine, has_proper_segments};
-ghost use Rattle.topo_model.specs.Segment.{touches, touches_at};
+ghost use Rattle.plane.specs.Line.{are_simple, first_vertex, is_apart_from, is_simple, joins, segments_of};
+ghost use Rattle.plane.specs.LinePoints.{IsPlainLine, has_proper_segments};
+ghost use Rattle.plane.specs.Segment.{touches, touches_at};
 
 use crate::proper::{first_of, is_proper, is_same_point, segment};
 use grid_segments::{Relation, Seg, relate};

@@ -1,9 +1,9 @@
 ghost use Rattle.std.specs.Prelude.{◌≡◌, ◌↔◌, ◌⊎◌, ◌+◌, ◌<◌, [], ◌∷◌, ◌++◌, IsTrue, IsSome, IfOk, IfSome, IfNone, false, true, if◌then◌else◌, drop, length, take};
 ghost use Rattle.topo_base.specs.Point.{same_point};
 ghost use Rattle.topo_base.specs.RationalPoint.{RationalPoint};
-ghost use Rattle.topo_model.specs.Line.{first_vertex, is_inside_line, is_simple, line_from, line_up_to, on_line};
-ghost use Rattle.topo_model.specs.LinePoints.{has_proper_segments};
-ghost use Rattle.topo_model.specs.RationalTests.{IsOnLine};
+ghost use Rattle.plane.specs.Line.{first_vertex, is_inside_line, is_simple, line_from, line_up_to, on_line};
+ghost use Rattle.plane.specs.LinePoints.{has_proper_segments};
+ghost use Rattle.plane.specs.RationalTests.{IsOnLine};
 
 use crate::meetings::is_line_end;
 use crate::proper::{is_same_point, segment};

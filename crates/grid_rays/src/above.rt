@@ -1,7 +1,7 @@
 ghost use Rattle.std.specs.Prelude.{◌≡◌, ◌↔◌, ◌+◌, ◌%◌, count_by, length, IsTrue};
-ghost use Rattle.topo_model.specs.Orientation.{is_right};
-ghost use Rattle.topo_model.specs.Line.{segments_of};
-ghost use Rattle.topo_model.specs.Faces.{passes_above as passes_over, is_over as lies_over, is_odd_over};
+ghost use Rattle.plane.specs.Orientation.{is_right};
+ghost use Rattle.plane.specs.Line.{segments_of};
+ghost use Rattle.plane.specs.Parity.{passes_above as passes_over, is_over as lies_over, is_odd_over};
 
 use grid_segments::{Seg, Side, side};
 use std::sync::ledger::Ledger;

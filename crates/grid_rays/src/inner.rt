@@ -1,6 +1,6 @@
 ghost use Rattle.std.specs.Prelude.{◌≡◌};
-ghost use Rattle.topo_model.specs.Faces.{is_odd_over};
-ghost use Rattle.topo_model.specs.Ring.{closed_segments};
+ghost use Rattle.plane.specs.Parity.{is_odd_over};
+ghost use Rattle.plane.specs.ClosedWalk.{closed_segments};
 
 use crate::Ring;
 use crate::above::is_over;

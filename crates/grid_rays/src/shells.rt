@@ -1,7 +1,7 @@
 ghost use Rattle.std.specs.Prelude.{◌≡◌, not};
 ghost use Rattle.topo_base.specs.Point.{same_point};
-ghost use Rattle.topo_model.specs.Direction.{direction_to, in_wedge, straight_up};
-ghost use Rattle.topo_model.specs.Ring.{closed_segments, is_hole_walk, turns_below as goes_below};
+ghost use Rattle.plane.specs.Direction.{direction_to, in_wedge, straight_up};
+ghost use Rattle.plane.specs.ClosedWalk.{closed_segments, is_hole_walk, turns_below as goes_below};
 
 use crate::{Ring, top_vertex};
 use grid_angle::{Dir, clockwise};

@@ -1,5 +1,5 @@
 ghost use Rattle.std.specs.Prelude.{◌≡◌};
-ghost use Rattle.topo_model.specs.Ring.{is_higher as lies_higher, IsTopVertex};
+ghost use Rattle.plane.specs.ClosedWalk.{is_higher as lies_higher, IsTopVertex};
 
 use crate::Ring;
 use topo_base::Grid;

@@ -1,7 +1,7 @@
 ghost use Rattle.std.specs.Prelude.{◌≡◌, ◌↔◌, ◌^◌, pos, ◌-ℤ◌, IsTrue};
 ghost use Rattle.topo_base.specs.Within.{IsWithin};
-ghost use Rattle.topo_model.specs.Orientation.{area};
-ghost use Rattle.topo_model.specs.Relation.{AreOpposite, turn};
+ghost use Rattle.plane.specs.Orientation.{area};
+ghost use Rattle.plane.specs.Relation.{AreOpposite, turn};
 
 use crate::Seg;
 use topo_base::{Grid, cross_product};

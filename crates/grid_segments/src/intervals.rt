@@ -1,4 +1,4 @@
-ghost use Rattle.topo_model.specs.Relation.{Facing, Faces};
+ghost use Rattle.plane.specs.Relation.{Facing, Faces};
 ghost use Rattle.std.specs.Prelude.{◌≡◌, ◌↔◌, IsTrue};
 
 use crate::Seg;

@@ -1,8 +1,8 @@
 ghost use Rattle.std.specs.Prelude.{◌≡◌, ◌↔◌, pos, IsTrue};
 ghost use Rattle.topo_base.specs.RationalPoint.{rational};
-ghost use Rattle.topo_model.specs.Orientation.{is_straight};
-ghost use Rattle.topo_model.specs.Segment.{is_between, on_segment as is_on_segment};
-ghost use Rattle.topo_model.specs.RationalTests.{IsOn};
+ghost use Rattle.plane.specs.Orientation.{is_straight};
+ghost use Rattle.plane.specs.Segment.{is_between, on_segment as is_on_segment};
+ghost use Rattle.plane.specs.RationalTests.{IsOn};
 
 use crate::Seg;
 use crate::areas::area_with;

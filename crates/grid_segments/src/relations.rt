@@ -1,5 +1,5 @@
 ghost use Rattle.std.specs.Prelude.{◌≡◌, ◌+◌};
-ghost use Rattle.topo_model.specs.Relation.{AreInLine, Relates};
+ghost use Rattle.plane.specs.Relation.{AreInLine, Relates};
 
 use crate::Seg;
 use crate::areas::{is_parallel, reaches};

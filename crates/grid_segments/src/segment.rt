@@ -1,6 +1,6 @@
 ghost use Rattle.std.specs.Prelude.{◌≡◌, IsTrue, ◌↔◌, MatchOption};
-ghost use Rattle.topo_model.specs.Segment.{Segment};
-ghost use Rattle.topo_model.specs.Relation.{IsProper, SameCoordinates, IsEndPoint};
+ghost use Rattle.plane.specs.Segment.{Segment};
+ghost use Rattle.plane.specs.Relation.{IsProper, SameCoordinates, IsEndPoint};
 ghost use Rattle.topo_base.specs.Point.{Point, same_point};
 
 use std::marker::Model;
@@ -14,8 +14,8 @@ pub struct Seg {
 }
 
 impl Model for Seg {
-    ghost use Rattle.topo_model.specs.Segment.{Segment};
-    ghost use Rattle.topo_model.specs.Relation.{IsProper};
+    ghost use Rattle.plane.specs.Segment.{Segment};
+    ghost use Rattle.plane.specs.Relation.{IsProper};
 
     ghost Value = { Segment };
 

@@ -1,5 +1,5 @@
-ghost use Rattle.topo_model.specs.Orientation.{area};
-ghost use Rattle.topo_model.specs.Relation.{IsSide};
+ghost use Rattle.plane.specs.Orientation.{area};
+ghost use Rattle.plane.specs.Relation.{IsSide};
 
 use crate::Seg;
 use crate::areas::area_with;

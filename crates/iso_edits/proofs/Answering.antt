@@ -5,7 +5,7 @@ use Rattle.std.specs.Result.{IfOk, IfErr, IsOk}
 use Rattle.topo_base.specs.declared.edit.Edit.{Edit}
 use Rattle.topo_base.specs.declared.element.Element.{Element}
 use Rattle.topo_base.specs.declared.write.RowWrite.{RowWrite}
-use Rattle.topo_model.specs.Drawing.{Drawing}
+use Rattle.drawing.specs.Drawing.{Drawing}
 use Rattle.read_set.specs.Plans.{IsPlanFor}
 use Rattle.iso_edits.specs.declared.draft.Draft.{Draft}
 use Rattle.iso_edits.specs.declared.draft.DraftEnd.{DraftEnd}

@@ -13,19 +13,19 @@ use Rattle.topo_base.specs.declared.write.Hand.TheVariants.{Right}
 use Rattle.topo_base.specs.declared.write.RowId.TheVariants.{Old}
 use Rattle.topo_base.specs.declared.write.RowWrite.{RowWrite}
 use Rattle.topo_base.specs.declared.write.RowWrite.TheVariants.{AddFace, SetSide, SetContaining}
-use Rattle.topo_model.specs.Drawing.{Drawing, Edge, node_id_of, edge_id_of, has_face}
-use Rattle.topo_model.specs.IsoEdits.{accepts_face}
-use Rattle.topo_model.specs.PlainLaw.{IsPlainInOrder}
-use Rattle.topo_model.specs.Rows.{row_at, has_row}
-use Rattle.topo_model.specs.Subdivision.{face_id_of}
-use Rattle.topo_model.specs.Tables.{Tables, drawn, drawn_edge}
-use Rattle.topo_model.specs.Writable.{has_face_row}
-use Rattle.topo_model.specs.Writes.{written, all_written, with_side}
-use Rattle.topo_model.proofs.Ordering.{InOrder, InOrder-push, InOrder-map, InOrder-change}
-use Rattle.topo_model.proofs.PlainChanges.{sides_changed, face_set}
-use Rattle.topo_model.proofs.PlainParts.{ArePlain, parts_of, plain_of}
-use Rattle.topo_model.proofs.RowLemmas.{is_some-row_at}
-use Rattle.topo_model.proofs.TableLemmas.{list_any-map}
+use Rattle.drawing.specs.Drawing.{Drawing, Edge, node_id_of, edge_id_of, has_face}
+use Rattle.drawing.specs.IsoEdits.{accepts_face}
+use Rattle.drawing.specs.PlainInOrder.{IsPlainInOrder}
+use Rattle.drawing.specs.Rows.{row_at, has_row}
+use Rattle.drawing.specs.Subdivision.{face_id_of}
+use Rattle.drawing.specs.Tables.{Tables, drawn, drawn_edge}
+use Rattle.drawing.specs.Writable.{has_face_row}
+use Rattle.drawing.specs.Writes.{written, all_written, with_side}
+use Rattle.drawing.proofs.Ordering.{InOrder, InOrder-push, InOrder-map, InOrder-change}
+use Rattle.drawing.proofs.PlainChanges.{sides_changed, face_set}
+use Rattle.drawing.proofs.PlainParts.{ArePlain, parts_of, plain_of}
+use Rattle.drawing.proofs.RowLemmas.{is_some-row_at}
+use Rattle.drawing.proofs.TableLemmas.{list_any-map}
 use Rattle.iso_edits.specs.Ready.{KnowsFaces, knows_containing, knows_sides}
 use Rattle.iso_edits.proofs.KnownFacesStay.{all_changed}
 

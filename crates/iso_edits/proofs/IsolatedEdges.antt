@@ -11,28 +11,28 @@ use Rattle.topo_base.specs.declared.edit.Edit.TheVariants.{AddIsoEdge, RemoveIso
 use Rattle.topo_base.specs.declared.write.RowId.TheVariants.{Old}
 use Rattle.topo_base.specs.declared.write.RowWrite.{RowWrite}
 use Rattle.topo_base.specs.declared.write.RowWrite.TheVariants.{AddEdge, DropEdge, SetContaining}
-use Rattle.topo_model.specs.Blocked.{is_line_blocked, goes_between}
-use Rattle.topo_model.specs.Drawing.{Drawing, Edge, node_id_of, edge_id_of, node_at, edge_at, is_end_of, is_isolated, has_only, has_face}
-use Rattle.topo_model.specs.HalfEdge.{both_ways}
-use Rattle.topo_model.specs.IsoEdits.{with_edge, put_in_face, is_in_feature, is_isolated_edge}
-use Rattle.topo_model.specs.Line.{is_simple}
-use Rattle.topo_model.specs.Outcome.{the_edge}
+use Rattle.drawing.specs.Blocked.{is_line_blocked, goes_between}
+use Rattle.drawing.specs.Drawing.{Drawing, Edge, node_id_of, edge_id_of, node_at, edge_at, is_end_of, is_isolated, has_only, has_face}
+use Rattle.drawing.specs.HalfEdge.{both_ways}
+use Rattle.drawing.specs.IsoEdits.{with_edge, put_in_face, is_in_feature, is_isolated_edge}
+use Rattle.plane.specs.Line.{is_simple}
+use Rattle.drawing.specs.Outcome.{the_edge}
 use Rattle.read_set.specs.Plans.{IsPlanFor}
-use Rattle.topo_model.specs.Relations.{edge_type}
-use Rattle.topo_model.specs.Rows.{has_row, without_row}
-use Rattle.topo_model.specs.Step.{step}
-use Rattle.topo_model.specs.Tables.{Tables, tables_of, edge_row, face_box}
-use Rattle.topo_model.specs.Writable.{has_face_row}
-use Rattle.topo_model.specs.Writes.{edge_row_id, all_written}
+use Rattle.drawing.specs.Relations.{edge_type}
+use Rattle.drawing.specs.Rows.{has_row, without_row}
+use Rattle.drawing.specs.Step.{step}
+use Rattle.drawing.specs.Tables.{Tables, tables_of, edge_row, face_box}
+use Rattle.drawing.specs.Writable.{has_face_row}
+use Rattle.drawing.specs.Writes.{edge_row_id, all_written}
 use Rattle.face_boxes.specs.Bounds.{box_with, box_write, other_write, without}
 use Rattle.face_boxes.proofs.Boxes.{boxed, boxed_there, box_written, other_written, boxes_come, boxes_go, can_box, can_other}
 use Rattle.iso_edits.proofs.IsolatedNodes.{face_there}
 use Rattle.iso_edits.proofs.IsolatedLinks.{rows_comes, rows_goes}
 use Rattle.edit_conditions.proofs.IsolatedTests.{found_id, found_there, has_row-change}
-use Rattle.topo_model.proofs.ListTests.{contains_cases, contains_none}
-use Rattle.topo_model.proofs.Members.{contains-found, pairwise-same, ids_differ}
-use Rattle.topo_model.proofs.Ordering.{InOrder}
-use Rattle.topo_model.proofs.WritesInOrder.{can_write-append, written-append}
+use Rattle.plane.proofs.ListTests.{contains_cases, contains_none}
+use Rattle.drawing.proofs.Members.{contains-found, pairwise-same, ids_differ}
+use Rattle.drawing.proofs.Ordering.{InOrder}
+use Rattle.drawing.proofs.WritesInOrder.{can_write-append, written-append}
 
 -- no edge where a node is isolated
 none_there : (b : Bool) → not b ≡ true → b ≡ false

@@ -3,13 +3,13 @@ use Rattle.std.proofs.Common.{◌≡◌, ℕ, ◌==◌, ◌&&◌, ◌||◌, List
 use Rattle.std.specs.List.{list_any, flat_map, Contains}
 use Rattle.std.proofs.lemmas.Bool.Decides.{nat_tests}
 use Rattle.topo_base.specs.declared.rows.EdgeRow.{EdgeRow}
-use Rattle.topo_model.specs.Drawing.{Edge, edge_id_of, is_end_of}
-use Rattle.topo_model.specs.HalfEdge.{HalfEdge, forward_of, backward_of, both_ways, twin, leaves, same_half_edge}
-use Rattle.topo_model.specs.Star.{next_of, or_twin, first_clockwise, leaving}
-use Rattle.topo_model.specs.Rows.{without_row}
-use Rattle.topo_model.specs.Tables.{edge_row}
-use Rattle.topo_model.specs.Writes.{edge_row_id}
-use Rattle.topo_model.proofs.ListTests.{contains_here, contains_there}
+use Rattle.drawing.specs.Drawing.{Edge, edge_id_of, is_end_of}
+use Rattle.drawing.specs.HalfEdge.{HalfEdge, forward_of, backward_of, both_ways, twin, leaves, same_half_edge}
+use Rattle.drawing.specs.Star.{next_of, or_twin, first_clockwise, leaving}
+use Rattle.drawing.specs.Rows.{without_row}
+use Rattle.drawing.specs.Tables.{edge_row}
+use Rattle.drawing.specs.Writes.{edge_row_id}
+use Rattle.plane.proofs.ListTests.{contains_here, contains_there}
 
 -- what may follow h: what leaves where it arrives, but not h walked back
 abbrev may_follow : HalfEdge → HalfEdge → Bool

@@ -8,17 +8,17 @@ use Rattle.topo_base.specs.declared.rows.NodeRow.{NodeRow}
 use Rattle.topo_base.specs.declared.edit.Edit.TheVariants.{AddIsoNode, MoveIsoNode, RemoveIsoNode}
 use Rattle.topo_base.specs.declared.write.RowId.TheVariants.{Old}
 use Rattle.topo_base.specs.declared.write.RowWrite.TheVariants.{AddNode, SetPoint, DropNode}
-use Rattle.topo_model.specs.Drawing.{Drawing, node_id_of, node_at, is_isolated, has_face}
-use Rattle.topo_model.specs.Outcome.{the_node}
-use Rattle.topo_model.specs.Blocked.{is_blocked, is_blocked_for}
-use Rattle.topo_model.specs.Faces.{face_at, is_in_face}
-use Rattle.topo_model.specs.IsoEdits.{accepts_face, is_given_face, is_in_feature, with_node, put_at}
-use Rattle.topo_model.specs.Relations.{node_type}
-use Rattle.topo_model.specs.Rows.{has_row, without_row}
-use Rattle.topo_model.specs.Step.{step}
-use Rattle.topo_model.specs.Tables.{tables_of, face_row}
-use Rattle.topo_model.specs.Writable.{has_face_row}
-use Rattle.topo_model.specs.Writes.{face_row_id}
+use Rattle.drawing.specs.Drawing.{Drawing, node_id_of, node_at, is_isolated, has_face}
+use Rattle.drawing.specs.Outcome.{the_node}
+use Rattle.drawing.specs.Blocked.{is_blocked, is_blocked_for}
+use Rattle.drawing.specs.Faces.{face_at, is_in_face}
+use Rattle.drawing.specs.IsoEdits.{accepts_face, is_given_face, is_in_feature, with_node, put_at}
+use Rattle.drawing.specs.Relations.{node_type}
+use Rattle.drawing.specs.Rows.{has_row, without_row}
+use Rattle.drawing.specs.Step.{step}
+use Rattle.drawing.specs.Tables.{tables_of, face_row}
+use Rattle.drawing.specs.Writable.{has_face_row}
+use Rattle.drawing.specs.Writes.{face_row_id}
 use Rattle.read_set.specs.Plans.{IsPlanFor}
 use Rattle.edit_conditions.proofs.IsolatedTests.{found_id, found_there}
 

@@ -4,13 +4,13 @@ use Rattle.topo_base.specs.declared.edit.Edit.{Edit}
 use Rattle.topo_base.specs.declared.element.Element.{Element}
 use Rattle.topo_base.specs.declared.write.RowWrite.{RowWrite}
 use Rattle.read_set.specs.Plans.{IsPlanFor}
-use Rattle.topo_model.specs.PlainLaw.{IsPlainInOrder}
-use Rattle.topo_model.specs.Replay.{after, drawing_of}
-use Rattle.topo_model.specs.Tables.{Tables, tables_of, drawn}
-use Rattle.topo_model.specs.Writable.{CanWriteAll}
-use Rattle.topo_model.specs.Writes.{all_written}
-use Rattle.topo_model.proofs.PlainHistories.{plain_stays}
-use Rattle.topo_model.proofs.TableLemmas.{drawn-tables_of}
+use Rattle.drawing.specs.PlainInOrder.{IsPlainInOrder}
+use Rattle.drawing.specs.Replay.{after, drawing_of}
+use Rattle.drawing.specs.Tables.{Tables, tables_of, drawn}
+use Rattle.drawing.specs.Writable.{CanWriteAll}
+use Rattle.drawing.specs.Writes.{all_written}
+use Rattle.edit_changes.proofs.PlainStays.{plain_stays}
+use Rattle.drawing.proofs.TableLemmas.{drawn-tables_of}
 use Rattle.iso_edits.specs.Ready.{KnowsFaces, HasPlainDrawing, is_planned}
 use Rattle.iso_edits.proofs.KnownFacesStay.{faces_stay_known}
 use Rattle.read_set.specs.Answered.{IsAnswered}

@@ -4,13 +4,13 @@ use Rattle.std.specs.List.{list_all, list_any, Contains}
 use Rattle.std.proofs.lemmas.Bool.{and_parts}
 use Rattle.topo_base.specs.Point.{same_point}
 use Rattle.topo_base.specs.declared.rows.NodeRow.{NodeRow}
-use Rattle.topo_model.specs.Drawing.{Drawing, Edge, node_id_of, edge_id_of, node_at, edge_at, has_face}
-use Rattle.topo_model.specs.IsoEdits.{accepts_face}
-use Rattle.topo_model.specs.Line.{segments_of, first_vertex, last_vertex, is_proper}
-use Rattle.topo_model.specs.Plain.{IsPlain, is_between_nodes, has_point}
-use Rattle.topo_model.specs.Rows.{has_row}
-use Rattle.topo_model.proofs.ListTests.{contains_none, contains_cases}
-use Rattle.topo_model.proofs.Members.{contains-found}
+use Rattle.drawing.specs.Drawing.{Drawing, Edge, node_id_of, edge_id_of, node_at, edge_at, has_face}
+use Rattle.drawing.specs.IsoEdits.{accepts_face}
+use Rattle.plane.specs.Line.{segments_of, first_vertex, last_vertex, is_proper}
+use Rattle.drawing.specs.Plain.{IsPlain, is_between_nodes, has_point}
+use Rattle.drawing.specs.Rows.{has_row}
+use Rattle.plane.proofs.ListTests.{contains_none, contains_cases}
+use Rattle.drawing.proofs.Members.{contains-found}
 use Rattle.iso_edits.specs.Ready.{KnowsFaces, knows_containing, knows_sides}
 
 -- a test of all holds of one of them

@@ -9,19 +9,19 @@ use Rattle.topo_base.specs.Point.{Point}
 use Rattle.topo_base.specs.declared.rows.NodeRow.{NodeRow}
 use Rattle.topo_base.specs.declared.edit.Edit.{Edit}
 use Rattle.topo_base.specs.declared.edit.Edit.TheVariants.{AddIsoNode, MoveIsoNode, RemoveIsoNode, AddIsoEdge, RemoveIsoEdge}
-use Rattle.topo_model.specs.Drawing.{Drawing, Edge, node_id_of, node_at, edge_at, is_isolated, has_face}
+use Rattle.drawing.specs.Drawing.{Drawing, Edge, node_id_of, node_at, edge_at, is_isolated, has_face}
 use Rattle.topo_base.specs.declared.rule.Rule.TheVariants.{NoFace, SameNode, NotIsolated, PointBlocked, NotInFace, LineEnds, LineNotSimple, LineBlocked, NodeInFeature, EdgeInFeature}
-use Rattle.topo_model.specs.Blocked.{is_blocked, is_blocked_for, is_line_blocked, goes_between}
-use Rattle.topo_model.specs.Faces.{face_at}
-use Rattle.topo_model.specs.IsoEdits.{accepts_face, is_given_face, is_in_feature, is_isolated_edge, put_in_face}
-use Rattle.topo_model.specs.Edits.{add_iso_node, move_iso_node, remove_iso_node, add_iso_edge, remove_iso_edge}
-use Rattle.topo_model.specs.Line.{is_simple}
-use Rattle.topo_model.specs.Outcome.{Outcome}
-use Rattle.topo_model.specs.Relations.{node_type, edge_type}
-use Rattle.topo_model.specs.Rows.{with_change}
-use Rattle.topo_model.specs.Replay.{after, drawing_of}
+use Rattle.drawing.specs.Blocked.{is_blocked, is_blocked_for, is_line_blocked, goes_between}
+use Rattle.drawing.specs.Faces.{face_at}
+use Rattle.drawing.specs.IsoEdits.{accepts_face, is_given_face, is_in_feature, is_isolated_edge, put_in_face}
+use Rattle.drawing.specs.Edits.{add_iso_node, move_iso_node, remove_iso_node, add_iso_edge, remove_iso_edge}
+use Rattle.plane.specs.Line.{is_simple}
+use Rattle.drawing.specs.Outcome.{Outcome}
+use Rattle.drawing.specs.Relations.{node_type, edge_type}
+use Rattle.drawing.specs.Rows.{with_change}
+use Rattle.drawing.specs.Replay.{after, drawing_of}
 use Rattle.iso_edits.proofs.IsolatedNodes.{face_listed}
-use Rattle.topo_model.proofs.Keeping.{Keeps, accepted, refused, refuses_else}
+use Rattle.drawing.proofs.Keeping.{Keeps, accepted, refused, refuses_else}
 use Rattle.iso_edits.specs.Ready.{KnowsFaces, knows_containing, knows_sides, is_planned}
 use Rattle.iso_edits.proofs.KnownFaces.{node_face, edge_faces}
 

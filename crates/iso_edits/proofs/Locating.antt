@@ -4,15 +4,16 @@ use Rattle.std.specs.List.{find, list_any}
 use Rattle.std.proofs.lemmas.Bool.{and_parts, cases_lt}
 use Rattle.topo_base.specs.Point.{Point}
 use Rattle.topo_base.specs.declared.rows.EdgeRow.{EdgeRow}
-use Rattle.topo_model.specs.Drawing.{Drawing, Edge, has_face}
-use Rattle.topo_model.specs.Faces.{xor, is_border, is_odd_over, is_in_face, face_at}
-use Rattle.topo_model.specs.Line.{segments_of}
-use Rattle.topo_model.specs.Places.{rows_of}
-use Rattle.topo_model.specs.Segment.{Segment}
-use Rattle.topo_model.specs.Subdivision.{face_id_of}
-use Rattle.topo_model.specs.Tables.{Tables, drawn, drawn_edge}
-use Rattle.topo_model.proofs.Ordering.{InOrder, first_of}
-use Rattle.topo_model.proofs.Walks.{odd_append}
+use Rattle.drawing.specs.Drawing.{Drawing, Edge, has_face}
+use Rattle.plane.specs.Parity.{xor, is_odd_over}
+use Rattle.drawing.specs.Faces.{is_border, is_in_face, face_at}
+use Rattle.plane.specs.Line.{segments_of}
+use Rattle.drawing.specs.Places.{rows_of}
+use Rattle.plane.specs.Segment.{Segment}
+use Rattle.drawing.specs.Subdivision.{face_id_of}
+use Rattle.drawing.specs.Tables.{Tables, drawn, drawn_edge}
+use Rattle.drawing.proofs.Ordering.{InOrder, first_of}
+use Rattle.plane.proofs.Walks.{odd_append}
 use Rattle.iso_edits.specs.Location.{border_in, AreOdd, IsLeast, is_odd_listed}
 
 -- ---- an edge more

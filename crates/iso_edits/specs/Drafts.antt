@@ -1,9 +1,9 @@
 -- What is answered where an edit is to be planned.
 use Rattle.std.specs.Prelude.{◌≡◌, Result, Ok, Err, IsOk}
 use Rattle.topo_base.specs.declared.edit.Edit.{Edit}
-use Rattle.topo_model.specs.Drawing.{Drawing}
+use Rattle.drawing.specs.Drawing.{Drawing}
 use Rattle.read_set.specs.Plans.{IsPlanFor}
-use Rattle.topo_model.specs.Step.{step}
+use Rattle.drawing.specs.Step.{step}
 use Rattle.iso_edits.specs.declared.draft.Draft.{Draft}
 use Rattle.iso_edits.specs.declared.draft.DraftEnd.{DraftEnd}
 use Rattle.iso_edits.specs.declared.draft.DraftEnd.TheVariants.{Refused, Memory}

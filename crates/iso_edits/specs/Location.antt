@@ -2,11 +2,12 @@
 use Rattle.std.specs.Prelude.{◌≡◌, ℕ, ◌+◌, ◌-◌, ◌<◌, ◌≤◌, ◌==◌, ◌&&◌, Bool, true, false, not, List, map, filter, flat_map, length, slice_index_or, Option, Some, None}
 use Rattle.topo_base.specs.Point.{Point}
 use Rattle.topo_base.specs.declared.rows.EdgeRow.{EdgeRow}
-use Rattle.topo_model.specs.Drawing.{Drawing, Edge, has_face}
-use Rattle.topo_model.specs.Faces.{xor, is_border, is_odd_over}
-use Rattle.topo_model.specs.Line.{segments_of}
-use Rattle.topo_model.specs.Segment.{Segment}
-use Rattle.topo_model.specs.Tables.{drawn_edge}
+use Rattle.drawing.specs.Drawing.{Drawing, Edge, has_face}
+use Rattle.plane.specs.Parity.{xor, is_odd_over}
+use Rattle.drawing.specs.Faces.{is_border}
+use Rattle.plane.specs.Line.{segments_of}
+use Rattle.plane.specs.Segment.{Segment}
+use Rattle.drawing.specs.Tables.{drawn_edge}
 
 -- the segments of the edges of these rows that have the face on exactly one side
 abbrev pub border_in : ℕ → List EdgeRow → List Segment

@@ -4,11 +4,11 @@ use Rattle.std.specs.List.{list_all}
 use Rattle.topo_base.specs.declared.rows.NodeRow.{NodeRow}
 use Rattle.topo_base.specs.declared.edit.Edit.{Edit}
 use Rattle.topo_base.specs.declared.edit.Edit.TheVariants.{AddIsoNode, MoveIsoNode, RemoveIsoNode, AddIsoEdge, RemoveIsoEdge}
-use Rattle.topo_model.specs.Drawing.{Drawing, Edge, has_face}
-use Rattle.topo_model.specs.IsoEdits.{accepts_face}
-use Rattle.topo_model.specs.PlainLaw.{IsPlainInOrder}
-use Rattle.topo_model.specs.Subdivision.{rows_in_order, face_id_of}
-use Rattle.topo_model.specs.Tables.{Tables, tables_of, drawn}
+use Rattle.drawing.specs.Drawing.{Drawing, Edge, has_face}
+use Rattle.drawing.specs.IsoEdits.{accepts_face}
+use Rattle.drawing.specs.PlainInOrder.{IsPlainInOrder}
+use Rattle.drawing.specs.Subdivision.{rows_in_order, face_id_of}
+use Rattle.drawing.specs.Tables.{Tables, tables_of, drawn}
 
 -- the containing face of a node, if any, is listed; both faces beside an edge are
 abbrev pub knows_containing : Drawing → NodeRow → Bool

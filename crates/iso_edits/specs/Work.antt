@@ -3,7 +3,7 @@ use Rattle.std.specs.Prelude.{ℕ, ◌+◌, ◌*◌, ◌/◌, length}
 use Rattle.std.specs.List.{sum_by}
 use Rattle.topo_base.specs.declared.edit.Edit.{Edit}
 use Rattle.topo_base.specs.declared.edit.Edit.TheVariants.{AddIsoNode, MoveIsoNode, RemoveIsoNode, AddIsoEdge, RemoveIsoEdge}
-use Rattle.topo_model.specs.Tables.{Tables}
+use Rattle.drawing.specs.Tables.{Tables}
 use Rattle.edit_conditions.specs.Counted.{point_steps, all_point_steps, all_line_steps}
 
 -- the face of a point: a walk over the edges for every 4096 faces, and a look at each of these

@@ -2,7 +2,7 @@
 ghost use Rattle.std.specs.Prelude.{◌≡◌, ◌+◌, ◌≤◌, length, unwrap_or, IfOk, IsTrue};
 ghost use Rattle.std.specs.List.{list_all, sum_by};
 ghost use Rattle.topo_base.specs.declared.edit.Edit.{Edit};
-ghost use Rattle.topo_model.specs.Tables.{drawn, face_box};
+ghost use Rattle.drawing.specs.Tables.{drawn, face_box};
 ghost use Rattle.face_boxes.specs.Bounds.{box_with, without};
 ghost use Rattle.iso_edits.specs.Drafts.{AnswersEdit};
 ghost use Rattle.iso_edits.specs.Ready.{IsReady};

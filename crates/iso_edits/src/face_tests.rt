@@ -3,8 +3,8 @@
 
 ghost use Rattle.std.specs.Prelude.{◌≡◌, ◌<◌, IfOk, IsTrue};
 ghost use Rattle.iso_edits.specs.Ready.{HasPlainDrawing, KnowsFaces, is_planned};
-ghost use Rattle.topo_model.specs.PlainLaw.{IsPlainInOrder};
-ghost use Rattle.topo_model.specs.Tables.{drawn};
+ghost use Rattle.drawing.specs.PlainInOrder.{IsPlainInOrder};
+ghost use Rattle.drawing.specs.Tables.{drawn};
 
 use crate::plan;
 use crate::tests::{done_node, edge_comes, expect, grid, node_comes, node_moves};

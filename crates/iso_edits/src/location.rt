@@ -1,12 +1,13 @@
 // The face that a point is in.
 ghost use Rattle.std.specs.Prelude.{◌≡◌, ◌+◌, ◌-◌, ◌*◌, ◌≤◌, ◌==◌, ◌&&◌, not, false, length, slice_index_or, IsTrue};
 ghost use Rattle.std.specs.List.{sum_by};
-ghost use Rattle.topo_model.specs.Drawing.{has_face};
-ghost use Rattle.topo_model.specs.Faces.{face_at, is_border, is_odd_over, xor};
-ghost use Rattle.topo_model.specs.Line.{segments_of};
-ghost use Rattle.topo_model.specs.Places.{rows_of};
-ghost use Rattle.topo_model.specs.Subdivision.{rows_in_order, face_id_of};
-ghost use Rattle.topo_model.specs.Tables.{drawn, drawn_edge};
+ghost use Rattle.drawing.specs.Drawing.{has_face};
+ghost use Rattle.drawing.specs.Faces.{face_at, is_border};
+ghost use Rattle.plane.specs.Parity.{is_odd_over, xor};
+ghost use Rattle.plane.specs.Line.{segments_of};
+ghost use Rattle.drawing.specs.Places.{rows_of};
+ghost use Rattle.drawing.specs.Subdivision.{rows_in_order, face_id_of};
+ghost use Rattle.drawing.specs.Tables.{drawn, drawn_edge};
 ghost use Rattle.iso_edits.specs.Location.{AreNone, AreOdd, AreToggled, IsLeast, is_odd_listed};
 ghost use Rattle.edit_conditions.specs.Counted.{point_steps};
 ghost use Rattle.iso_edits.specs.Work.{face_steps};

@@ -2,7 +2,7 @@ ghost use Rattle.std.specs.Prelude.{◌≡◌, ◌+◌, ◌≤◌, IfOk, IsTrue}
 ghost use Rattle.std.specs.List.{list_all};
 ghost use Rattle.read_set.specs.Answered.{IsAnswered};
 ghost use Rattle.read_set.specs.Planned.{IsEditor};
-ghost use Rattle.topo_model.specs.Tables.{drawn};
+ghost use Rattle.drawing.specs.Tables.{drawn};
 ghost use Rattle.iso_edits.specs.Drafts.{AnswersEdit};
 ghost use Rattle.iso_edits.specs.Ready.{IsReady, is_planned};
 ghost use Rattle.iso_edits.specs.Work.{most_steps};

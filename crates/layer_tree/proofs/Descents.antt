@@ -4,9 +4,9 @@ use Rattle.std.specs.List.{list_any}
 use Rattle.std.proofs.lemmas.Bool.Decides.{nat_tests}
 use Rattle.std.proofs.lemmas.List.Folds.{list_any-append}
 use Rattle.topo_base.specs.declared.rows.RelationRow.{RelationRow}
-use Rattle.topo_model.specs.Descent.{ascending, elements_at, listed_by}
-use Rattle.topo_model.specs.Drawing.{Drawing}
-use Rattle.topo_model.specs.Relations.{is_among}
+use Rattle.drawing.specs.Descent.{ascending, elements_at, listed_by}
+use Rattle.drawing.specs.Drawing.{Drawing}
+use Rattle.drawing.specs.Relations.{is_among}
 use Rattle.layer_tree.specs.Descending.{below, levels_below, listed_by_any}
 use Rattle.layer_tree.proofs.Members.{Same, same_bool, among_ascending, ascending_same}
 

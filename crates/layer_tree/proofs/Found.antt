@@ -1,7 +1,7 @@
 -- A row that a reader of the tables gives.
 use Rattle.std.proofs.Common.{◌≡◌, ◌∙◌, sym, ap, Option, Some, Bor, IsTrue, ℕ, List, subst}
 use Rattle.std.specs.Option.{option_copied}
-use Rattle.topo_model.specs.Rows.{row_at, has_row}
+use Rattle.drawing.specs.Rows.{row_at, has_row}
 use Rattle.edit_conditions.proofs.IsolatedTests.{found_id, found_there}
 
 -- the row that was found, among the rows of the tables

@@ -5,10 +5,10 @@ use Rattle.std.proofs.lemmas.List.{length-map}
 use Rattle.std.proofs.lemmas.Bool.{and_parts}
 use Rattle.std.proofs.lemmas.Bool.Decides.{nat_tests}
 use Rattle.topo_base.specs.declared.rows.LayerRow.{LayerRow}
-use Rattle.topo_model.specs.Drawing.{Drawing, layer_at, layer_id_of}
-use Rattle.topo_model.specs.Layers.{same_kind}
-use Rattle.topo_model.specs.Rows.{row_at}
-use Rattle.topo_model.specs.Subdivision.{ascend_between, ids_in_order, is_above, is_layer_known, references_known}
+use Rattle.drawing.specs.Drawing.{Drawing, layer_at, layer_id_of}
+use Rattle.drawing.specs.Layers.{same_kind}
+use Rattle.drawing.specs.Rows.{row_at}
+use Rattle.drawing.specs.Subdivision.{ascend_between, ids_in_order, is_above, is_layer_known, references_known}
 use Rattle.relation_rows.proofs.KnownFeatures.{references_parts}
 
 -- ---- ids that ascend

@@ -9,8 +9,8 @@ use Rattle.std.proofs.lemmas.List.Filters.{dedup_is}
 use Rattle.std.proofs.lemmas.List.Kept.{Contains-dedup_nat, Contains-from_dedup}
 use Rattle.std.proofs.lemmas.List.Sorted.{Contains-permutation, IsPermutation-sym}
 use Rattle.std.proofs.lemmas.Map.Keys.{IsStrictlyIncreasing-dedup, below_from_sorted, sorted_from_strictly_increasing}
-use Rattle.topo_model.specs.Descent.{ascending, insert_number}
-use Rattle.topo_model.specs.Relations.{is_among}
+use Rattle.drawing.specs.Descent.{ascending, insert_number}
+use Rattle.drawing.specs.Relations.{is_among}
 
 abbrev pub Same : List ℕ → List ℕ → Type 0
 Same xs ys = (m : ℕ) → is_among m xs ≡ is_among m ys

@@ -1,10 +1,10 @@
 -- What is answered where an edit is to be planned.
 use Rattle.std.specs.Prelude.{◌≡◌, ℕ, Bool, IsTrue, Option, Some, None, Result, Ok, Err, IsOk}
-use Rattle.topo_model.specs.Drawing.{Drawing}
-use Rattle.topo_model.specs.Outcome.{Accepted, Outcome}
-use Rattle.topo_model.specs.Tables.{tables_of}
-use Rattle.topo_model.specs.Writable.{CanWriteAll}
-use Rattle.topo_model.specs.Writes.{all_written}
+use Rattle.drawing.specs.Drawing.{Drawing}
+use Rattle.drawing.specs.Outcome.{Accepted, Outcome}
+use Rattle.drawing.specs.Tables.{tables_of}
+use Rattle.drawing.specs.Writable.{CanWriteAll}
+use Rattle.drawing.specs.Writes.{all_written}
 use Rattle.read_set.specs.declared.end.PlanEnd.{PlanEnd}
 use Rattle.read_set.specs.declared.end.PlanEnd.TheVariants.{Refused, Memory}
 use Rattle.layer_tree.specs.declared.edited.Edited.{Edited}

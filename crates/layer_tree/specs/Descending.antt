@@ -6,10 +6,10 @@ use Rattle.topo_base.specs.declared.element.Element.{Element}
 use Rattle.topo_base.specs.declared.rows.FeatureRow.{FeatureRow}
 use Rattle.topo_base.specs.declared.rows.LayerRow.{LayerRow}
 use Rattle.topo_base.specs.declared.rows.RelationRow.{RelationRow}
-use Rattle.topo_model.specs.Descent.{ascending}
-use Rattle.topo_model.specs.Drawing.{Drawing, feature_at, layer_at}
-use Rattle.topo_model.specs.Outcome.{the_node, the_edge, the_face}
-use Rattle.topo_model.specs.Relations.{is_among}
+use Rattle.drawing.specs.Descent.{ascending}
+use Rattle.drawing.specs.Drawing.{Drawing, feature_at, layer_at}
+use Rattle.drawing.specs.Outcome.{the_node, the_edge, the_face}
+use Rattle.drawing.specs.Relations.{is_among}
 
 -- what these rows of any of the features list
 abbrev pub listed_by_any : List ℕ → List RelationRow → List ℕ

@@ -1,8 +1,8 @@
 // The elements to which a feature descends.
 ghost use Rattle.std.specs.Prelude.{◌≡◌, IfOk, map};
-ghost use Rattle.topo_model.specs.Descent.{elements_at as elements_at_level, elements_of as elements_below, level_of as level_in};
-ghost use Rattle.topo_model.specs.Drawing.{layer_at};
-ghost use Rattle.topo_model.specs.Tables.{drawn};
+ghost use Rattle.drawing.specs.Descent.{elements_at as elements_at_level, elements_of as elements_below, level_of as level_in};
+ghost use Rattle.drawing.specs.Drawing.{layer_at};
+ghost use Rattle.drawing.specs.Tables.{drawn};
 ghost use Rattle.layer_tree.specs.Descending.{layer_of, kind_in, primitive, primitives};
 
 use crate::numbers::{below, listed_by};

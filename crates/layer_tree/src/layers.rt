@@ -2,11 +2,11 @@
 ghost use Rattle.std.specs.Prelude.{◌≡◌, ◌+◌, ◌<◌, ◌≤◌, ◌^◌, IfOk, IsTrue, Some, length, option_map, true};
 ghost use Rattle.std.specs.Str.{bytes_eq};
 ghost use Rattle.topo_base.specs.Kinds.{kind_number};
-ghost use Rattle.topo_model.specs.Drawing.{layer_at};
-ghost use Rattle.topo_model.specs.Layers.{is_name_taken as is_taken, same_kind};
-ghost use Rattle.topo_model.specs.Edits.{add_layer as added_layer, layer_on as layer_above, with_layer};
-ghost use Rattle.topo_model.specs.Tables.{drawn};
-ghost use Rattle.topo_model.specs.Writable.{has_layer_row};
+ghost use Rattle.drawing.specs.Drawing.{layer_at};
+ghost use Rattle.drawing.specs.Layers.{is_name_taken as is_taken, same_kind};
+ghost use Rattle.drawing.specs.Edits.{add_layer as added_layer, layer_on as layer_above, with_layer};
+ghost use Rattle.drawing.specs.Tables.{drawn};
+ghost use Rattle.drawing.specs.Writable.{has_layer_row};
 ghost use Rattle.layer_tree.specs.Answers.{AnswersOutcome, Follows, IsThereIfGiven};
 ghost use Rattle.layer_tree.specs.Ready.{IsReady};
 

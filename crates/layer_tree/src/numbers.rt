@@ -1,9 +1,9 @@
 // Numbers that relation rows list.
 ghost use Rattle.std.specs.Prelude.{◌≡◌, ◌==◌, ℕ, List, map, filter, IfOk};
 ghost use Rattle.topo_base.specs.declared.rows.RelationRow.{RelationRow as RowValue};
-ghost use Rattle.topo_model.specs.Descent.{ascending, listed_by as listed_in};
-ghost use Rattle.topo_model.specs.Relations.{is_among as stands_among};
-ghost use Rattle.topo_model.specs.Tables.{drawn};
+ghost use Rattle.drawing.specs.Descent.{ascending, listed_by as listed_in};
+ghost use Rattle.drawing.specs.Relations.{is_among as stands_among};
+ghost use Rattle.drawing.specs.Tables.{drawn};
 ghost use Rattle.layer_tree.specs.Descending.{below as below_these, listed_by_any};
 
 use std::alloc::Global;

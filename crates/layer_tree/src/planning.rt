@@ -1,7 +1,7 @@
 // Plans of layers that come.
 ghost use Rattle.std.specs.Prelude.{◌≡◌, IsTrue};
-ghost use Rattle.topo_model.specs.Step.{step};
-ghost use Rattle.topo_model.specs.Tables.{drawn, tables_of};
+ghost use Rattle.drawing.specs.Step.{step};
+ghost use Rattle.drawing.specs.Tables.{drawn, tables_of};
 ghost use Rattle.read_set.specs.Answered.{IsAnswered};
 ghost use Rattle.read_set.specs.Planned.{IsEditor};
 ghost use Rattle.layer_tree.specs.Answers.{AnswersOutcome};

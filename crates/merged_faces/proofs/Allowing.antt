@@ -8,15 +8,15 @@ use Rattle.topo_base.specs.declared.rows.NodeRow.{NodeRow}
 use Rattle.topo_base.specs.declared.write.Hand.{Hand}
 use Rattle.topo_base.specs.declared.write.Hand.TheVariants.{Left, Right}
 use Rattle.topo_base.specs.declared.write.RowWrite.{RowWrite}
-use Rattle.topo_model.specs.Drawing.{Drawing, Edge, node_id_of}
-use Rattle.topo_model.specs.Relations.{is_among}
-use Rattle.topo_model.specs.Rows.{has_row}
-use Rattle.topo_model.specs.Tables.{Tables, drawn}
-use Rattle.topo_model.specs.Writable.{CanWriteAll, has_edge_row, has_face_row, has_node_row}
-use Rattle.topo_model.specs.Writes.{edge_row_id, with_side, written}
-use Rattle.topo_model.proofs.ListTests.{contains_here, contains_there}
-use Rattle.topo_model.proofs.RowLemmas.{side-id}
-use Rattle.topo_model.proofs.WritesInOrder.{can_write-append}
+use Rattle.drawing.specs.Drawing.{Drawing, Edge, node_id_of}
+use Rattle.drawing.specs.Relations.{is_among}
+use Rattle.drawing.specs.Rows.{has_row}
+use Rattle.drawing.specs.Tables.{Tables, drawn}
+use Rattle.drawing.specs.Writable.{CanWriteAll, has_edge_row, has_face_row, has_node_row}
+use Rattle.drawing.specs.Writes.{edge_row_id, with_side, written}
+use Rattle.plane.proofs.ListTests.{contains_here, contains_there}
+use Rattle.drawing.proofs.RowLemmas.{side-id}
+use Rattle.drawing.proofs.WritesInOrder.{can_write-append}
 use Rattle.edit_conditions.proofs.IsolatedTests.{has_row-change}
 use Rattle.face_parts.proofs.Lists.{has_listed}
 use Rattle.merged_faces.specs.declared.removed.Freed.{Freed}

@@ -1,8 +1,8 @@
 -- Features follow faces that become one.
 use Rattle.std.proofs.Common.{◌≡◌, ℕ, List, [], ◌∷◌, ◌++◌, append_assoc, append-nil, sym, ap, ◌∙◌}
 use Rattle.topo_base.specs.declared.rows.RelationRow.{RelationRow}
-use Rattle.topo_model.specs.Relations.{face_type}
-use Rattle.topo_model.specs.Tables.{Tables, drawn}
+use Rattle.drawing.specs.Relations.{face_type}
+use Rattle.drawing.specs.Tables.{Tables, drawn}
 use Rattle.relation_rows.specs.KnownRows.{KnowsRows}
 use Rattle.relation_rows.proofs.MergedInto.{follow_none, follow_onward, knows_followed}
 use Rattle.merged_faces.specs.Merging.{one_by_one, with_relations}

@@ -1,12 +1,12 @@
 -- The parts of the test that ids ascend.
 use Rattle.std.proofs.Common.{◌≡◌, ℕ, List, [], ◌∷◌, map, refl, ap, IsTrue, ◌∙◌}
 use Rattle.std.proofs.lemmas.Bool.{and_parts}
-use Rattle.topo_model.specs.Drawing.{Drawing, Edge, edge_id_of, node_id_of}
-use Rattle.topo_model.specs.HalfEdge.{HalfEdge}
-use Rattle.topo_model.specs.Subdivision.{ascend_between, face_id_of, ids_in_order}
-use Rattle.topo_model.specs.Tables.{edge_row}
-use Rattle.topo_model.specs.Writes.{edge_row_id}
-use Rattle.topo_model.proofs.Ordering.{InOrder}
+use Rattle.drawing.specs.Drawing.{Drawing, Edge, edge_id_of, node_id_of}
+use Rattle.drawing.specs.HalfEdge.{HalfEdge}
+use Rattle.drawing.specs.Subdivision.{ascend_between, face_id_of, ids_in_order}
+use Rattle.drawing.specs.Tables.{edge_row}
+use Rattle.drawing.specs.Writes.{edge_row_id}
+use Rattle.drawing.proofs.Ordering.{InOrder}
 
 pub record AreInOrder (S : Drawing) : Type 0 where
   pub nodes : InOrder node_id_of 1 S.next_ids.node S.nodes

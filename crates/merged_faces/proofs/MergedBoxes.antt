@@ -8,18 +8,18 @@ use Rattle.topo_base.specs.declared.rows.Box4.{Box4}
 use Rattle.topo_base.specs.declared.rows.Counters.{Counters}
 use Rattle.topo_base.specs.declared.rows.FaceRow.{FaceRow}
 use Rattle.topo_base.specs.declared.write.RowId.TheVariants.{Old}
-use Rattle.topo_model.specs.Drawing.{Drawing, Edge, edge_id_of, has_face}
-use Rattle.topo_model.specs.Relations.{is_among}
-use Rattle.topo_model.specs.RemoveEdge.{renamed, renamed_edge, without_faces}
-use Rattle.topo_model.specs.Rows.{has_row, without_row}
-use Rattle.topo_model.specs.Subdivision.{face_id_of}
-use Rattle.topo_model.specs.Tables.{Tables, least_box, has_side, face_box, face_row}
-use Rattle.topo_model.specs.Writable.{CanWriteAll, has_face_row}
-use Rattle.topo_model.specs.Writes.{all_written, face_row_id}
-use Rattle.topo_model.proofs.ListTests.{contains_here, contains_there}
-use Rattle.topo_model.proofs.Members.{ids_differ, ids_within, pairwise-same}
-use Rattle.topo_model.proofs.Ordering.{InOrder, first_of}
-use Rattle.topo_model.proofs.WritesInOrder.{can_write-append, written-append}
+use Rattle.drawing.specs.Drawing.{Drawing, Edge, edge_id_of, has_face}
+use Rattle.drawing.specs.Relations.{is_among}
+use Rattle.drawing.specs.RemoveEdge.{renamed, renamed_edge, without_faces}
+use Rattle.drawing.specs.Rows.{has_row, without_row}
+use Rattle.drawing.specs.Subdivision.{face_id_of}
+use Rattle.drawing.specs.Tables.{Tables, least_box, has_side, face_box, face_row}
+use Rattle.drawing.specs.Writable.{CanWriteAll, has_face_row}
+use Rattle.drawing.specs.Writes.{all_written, face_row_id}
+use Rattle.plane.proofs.ListTests.{contains_here, contains_there}
+use Rattle.drawing.proofs.Members.{ids_differ, ids_within, pairwise-same}
+use Rattle.drawing.proofs.Ordering.{InOrder, first_of}
+use Rattle.drawing.proofs.WritesInOrder.{can_write-append, written-append}
 use Rattle.face_boxes.specs.Bounds.{box_write}
 use Rattle.face_boxes.proofs.Boxes.{AreRows, beside_less, boxed, boxed_is, boxed_there, box_written, can_box, chosen, chosen_rows, points_of}
 use Rattle.face_boxes.proofs.DividedBoxes.{line_of, lines_beside, new_row, with_new}

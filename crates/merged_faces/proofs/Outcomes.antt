@@ -6,17 +6,17 @@ use Rattle.std.proofs.lemmas.Bool.Decides.{nat_tests}
 use Rattle.std.proofs.lemmas.List.Folds.{list_any-append}
 use Rattle.topo_base.specs.declared.rows.Counters.{Counters}
 use Rattle.topo_base.specs.declared.rows.FaceRow.{FaceRow}
-use Rattle.topo_model.specs.Drawing.{Drawing, Edge, has_face, has_node}
-use Rattle.topo_model.specs.Outcome.{Accepted, the_face}
-use Rattle.topo_model.specs.Relations.{is_among}
-use Rattle.topo_model.specs.RemoveEdge.{without_edge}
-use Rattle.topo_model.specs.Edits.{merged}
-use Rattle.topo_model.specs.Rows.{has_row}
-use Rattle.topo_model.specs.Subdivision.{is_edge_known}
-use Rattle.topo_model.specs.Tables.{Tables, face_row, tables_of}
-use Rattle.topo_model.specs.Writable.{has_face_row}
-use Rattle.topo_model.specs.Writes.{face_row_id}
-use Rattle.topo_model.proofs.ListTests.{contains_cases, contains_none}
+use Rattle.drawing.specs.Drawing.{Drawing, Edge, has_face, has_node}
+use Rattle.drawing.specs.Outcome.{Accepted, the_face}
+use Rattle.drawing.specs.Relations.{is_among}
+use Rattle.drawing.specs.RemoveEdge.{without_edge}
+use Rattle.drawing.specs.Edits.{merged}
+use Rattle.drawing.specs.Rows.{has_row}
+use Rattle.drawing.specs.Subdivision.{is_edge_known}
+use Rattle.drawing.specs.Tables.{Tables, face_row, tables_of}
+use Rattle.drawing.specs.Writable.{has_face_row}
+use Rattle.drawing.specs.Writes.{face_row_id}
+use Rattle.plane.proofs.ListTests.{contains_cases, contains_none}
 use Rattle.face_boxes.proofs.Boxes.{AreRows}
 use Rattle.face_boxes.proofs.DividedBoxes.{has_mapped, with_new}
 use Rattle.relation_rows.proofs.KnownFeatures.{references_parts}

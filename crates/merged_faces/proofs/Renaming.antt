@@ -7,16 +7,16 @@ use Rattle.topo_base.specs.declared.rows.EdgeRow.{EdgeRow}
 use Rattle.topo_base.specs.declared.rows.NodeRow.{NodeRow}
 use Rattle.topo_base.specs.declared.write.Hand.TheVariants.{Left, Right}
 use Rattle.topo_base.specs.declared.write.RowWrite.{RowWrite}
-use Rattle.topo_model.specs.Drawing.{Drawing, Edge, edge_id_of, is_end_of, is_isolated, node_id_of}
-use Rattle.topo_model.specs.HalfEdge.{both_ways, half_edges}
-use Rattle.topo_model.specs.Relations.{is_among}
-use Rattle.topo_model.specs.RemoveEdge.{renamed, renamed_edge, renamed_node}
-use Rattle.topo_model.specs.Rows.{with_change}
-use Rattle.topo_model.specs.Tables.{Tables, drawn, edge_row, tables_of}
-use Rattle.topo_model.specs.Writes.{all_written, edge_row_id, with_side}
-use Rattle.topo_model.proofs.Ordering.{InOrder, InOrder-filter}
-use Rattle.topo_model.proofs.TableLemmas.{drawn-tables_of}
-use Rattle.topo_model.proofs.WritesInOrder.{written-append}
+use Rattle.drawing.specs.Drawing.{Drawing, Edge, edge_id_of, is_end_of, is_isolated, node_id_of}
+use Rattle.drawing.specs.HalfEdge.{both_ways, half_edges}
+use Rattle.drawing.specs.Relations.{is_among}
+use Rattle.drawing.specs.RemoveEdge.{renamed, renamed_edge, renamed_node}
+use Rattle.drawing.specs.Rows.{with_change}
+use Rattle.drawing.specs.Tables.{Tables, drawn, edge_row, tables_of}
+use Rattle.drawing.specs.Writes.{all_written, edge_row_id, with_side}
+use Rattle.drawing.proofs.Ordering.{InOrder, InOrder-filter}
+use Rattle.drawing.proofs.TableLemmas.{drawn-tables_of}
+use Rattle.drawing.proofs.WritesInOrder.{written-append}
 use Rattle.face_parts.proofs.RowSides.{row_sides}
 use Rattle.face_parts.proofs.SideWrites.{AreBelow}
 use Rattle.merged_faces.specs.declared.removed.Freed.{Freed}

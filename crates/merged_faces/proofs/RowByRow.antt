@@ -4,11 +4,11 @@ use Rattle.std.specs.List.{flat_map}
 use Rattle.std.proofs.lemmas.Bool.Decides.{nat_tests}
 use Rattle.topo_base.specs.declared.rows.Counters.{Counters}
 use Rattle.topo_base.specs.declared.write.RowWrite.{RowWrite}
-use Rattle.topo_model.specs.Rows.{with_change}
-use Rattle.topo_model.specs.Tables.{Tables}
-use Rattle.topo_model.specs.Writes.{all_written}
-use Rattle.topo_model.proofs.Ordering.{InOrder, first_of}
-use Rattle.topo_model.proofs.WritesInOrder.{written-append}
+use Rattle.drawing.specs.Rows.{with_change}
+use Rattle.drawing.specs.Tables.{Tables}
+use Rattle.drawing.specs.Writes.{all_written}
+use Rattle.drawing.proofs.Ordering.{InOrder, first_of}
+use Rattle.drawing.proofs.WritesInOrder.{written-append}
 use Rattle.face_parts.proofs.SideWrites.{AreBelow}
 
 below_wider : {R : Type 0} (id : R → ℕ) (n m : ℕ) (rows : List R) → n ≤ m → AreBelow id n rows → AreBelow id m rows

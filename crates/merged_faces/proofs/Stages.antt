@@ -4,11 +4,11 @@ use Rattle.std.specs.List.{flat_map}
 use Rattle.topo_base.specs.declared.rows.Box4.{Box4}
 use Rattle.topo_base.specs.declared.rows.Counters.{Counters}
 use Rattle.topo_base.specs.declared.rows.FaceRow.{FaceRow}
-use Rattle.topo_model.specs.Drawing.{Drawing, Edge}
-use Rattle.topo_model.specs.Tables.{Tables, drawn, face_box, has_side, least_box, tables_of}
-use Rattle.topo_model.specs.Writable.{has_face_row}
-use Rattle.topo_model.specs.Writes.{all_written}
-use Rattle.topo_model.proofs.TableLemmas.{drawn-tables_of}
+use Rattle.drawing.specs.Drawing.{Drawing, Edge}
+use Rattle.drawing.specs.Tables.{Tables, drawn, face_box, has_side, least_box, tables_of}
+use Rattle.drawing.specs.Writable.{has_face_row}
+use Rattle.drawing.specs.Writes.{all_written}
+use Rattle.drawing.proofs.TableLemmas.{drawn-tables_of}
 use Rattle.relation_rows.specs.KnownRows.{KnowsRows}
 use Rattle.relation_rows.proofs.MergedInto.{knows_rows}
 use Rattle.merged_faces.specs.declared.removed.Removed.{Removed}

@@ -3,7 +3,7 @@ use Rattle.std.specs.Prelude.{ℕ, List, ◌++◌, map}
 use Rattle.topo_base.specs.declared.write.RowId.TheVariants.{Old}
 use Rattle.topo_base.specs.declared.write.RowWrite.{RowWrite}
 use Rattle.topo_base.specs.declared.write.RowWrite.TheVariants.{DropFace}
-use Rattle.topo_model.specs.Tables.{Tables, drawn, face_box}
+use Rattle.drawing.specs.Tables.{Tables, drawn, face_box}
 use Rattle.face_boxes.specs.Bounds.{box_write}
 
 abbrev pub drop_face : ℕ → RowWrite

@@ -2,14 +2,14 @@
 use Rattle.std.specs.Prelude.{◌≡◌, ℕ, false, not, ◌==◌, IsTrue, List, [], ◌∷◌, map, filter}
 use Rattle.topo_base.specs.declared.rows.Counters.{Counters}
 use Rattle.topo_base.specs.declared.rows.FaceRow.{FaceRow}
-use Rattle.topo_model.specs.Drawing.{Drawing, Edge}
-use Rattle.topo_model.specs.Relations.{is_among}
-use Rattle.topo_model.specs.RemoveEdge.{without_edge}
-use Rattle.topo_model.specs.Rows.{has_row}
-use Rattle.topo_model.specs.Subdivision.{ids_in_order, references_known}
-use Rattle.topo_model.specs.Tables.{Tables, face_row, tables_of}
-use Rattle.topo_model.specs.Writable.{has_face_row}
-use Rattle.topo_model.specs.Writes.{face_row_id}
+use Rattle.drawing.specs.Drawing.{Drawing, Edge}
+use Rattle.drawing.specs.Relations.{is_among}
+use Rattle.drawing.specs.RemoveEdge.{without_edge}
+use Rattle.drawing.specs.Rows.{has_row}
+use Rattle.drawing.specs.Subdivision.{ids_in_order, references_known}
+use Rattle.drawing.specs.Tables.{Tables, face_row, tables_of}
+use Rattle.drawing.specs.Writable.{has_face_row}
+use Rattle.drawing.specs.Writes.{face_row_id}
 use Rattle.merged_faces.specs.declared.removed.Removed.{Removed}
 use Rattle.merged_faces.specs.MergedSides.{lessened}
 use Rattle.merged_faces.specs.Sides.{removed_of}

@@ -1,11 +1,11 @@
 -- A drawing from which an edge went, as rows have it, and the rows once sides and containing faces follow.
 use Rattle.std.specs.Prelude.{◌≡◌, ℕ, IsTrue, List, map, flat_map}
-use Rattle.topo_model.specs.Drawing.{Drawing, Edge, edge_id_of}
-use Rattle.topo_model.specs.HalfEdge.{both_ways}
-use Rattle.topo_model.specs.RemoveEdge.{renamed_edge, renamed_node}
-use Rattle.topo_model.specs.Rows.{without_row}
-use Rattle.topo_model.specs.Subdivision.{ids_in_order}
-use Rattle.topo_model.specs.Tables.{Tables, edge_row, tables_of}
+use Rattle.drawing.specs.Drawing.{Drawing, Edge, edge_id_of}
+use Rattle.drawing.specs.HalfEdge.{both_ways}
+use Rattle.drawing.specs.RemoveEdge.{renamed_edge, renamed_node}
+use Rattle.drawing.specs.Rows.{without_row}
+use Rattle.drawing.specs.Subdivision.{ids_in_order}
+use Rattle.drawing.specs.Tables.{Tables, edge_row, tables_of}
 use Rattle.merged_faces.specs.declared.removed.Removed.{Removed}
 use Rattle.merged_faces.specs.Sides.{removed_of}
 

@@ -2,12 +2,12 @@
 use Rattle.std.specs.Prelude.{◌≡◌, ◌⊎◌, ℕ, ◌+◌, Bool, ◌==◌, IsTrue, List, [], ◌∷◌, ◌++◌, None, if◌then◌else◌}
 use Rattle.std.specs.List.{Contains}
 use Rattle.topo_base.specs.declared.rows.FaceRow.{FaceRow}
-use Rattle.topo_model.specs.Drawing.{Drawing, Edge}
-use Rattle.topo_model.specs.Outcome.{Accepted, the_face}
-use Rattle.topo_model.specs.Relations.{face_type, follow}
-use Rattle.topo_model.specs.RemoveEdge.{without_edge, without_faces}
-use Rattle.topo_model.specs.Subdivision.{ids_in_order, references_known}
-use Rattle.topo_model.specs.Tables.{Tables, drawn, tables_of}
+use Rattle.drawing.specs.Drawing.{Drawing, Edge}
+use Rattle.drawing.specs.Outcome.{Accepted, the_face}
+use Rattle.drawing.specs.Relations.{face_type, follow}
+use Rattle.drawing.specs.RemoveEdge.{without_edge, without_faces}
+use Rattle.drawing.specs.Subdivision.{ids_in_order, references_known}
+use Rattle.drawing.specs.Tables.{Tables, drawn, tables_of}
 use Rattle.merged_faces.specs.declared.removed.Removed.{Removed}
 use Rattle.merged_faces.specs.MergedSides.{IsLess, lessened}
 use Rattle.merged_faces.specs.Sides.{removed_of}

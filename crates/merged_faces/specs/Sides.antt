@@ -7,9 +7,9 @@ use Rattle.topo_base.specs.declared.write.Hand.{Hand}
 use Rattle.topo_base.specs.declared.write.Hand.TheVariants.{Left, Right}
 use Rattle.topo_base.specs.declared.write.RowWrite.{RowWrite}
 use Rattle.topo_base.specs.declared.write.RowWrite.TheVariants.{SetSide, SetContaining}
-use Rattle.topo_model.specs.Drawing.{Drawing, Edge, is_isolated}
-use Rattle.topo_model.specs.Relations.{is_among}
-use Rattle.topo_model.specs.Tables.{Tables, drawn}
+use Rattle.drawing.specs.Drawing.{Drawing, Edge, is_isolated}
+use Rattle.drawing.specs.Relations.{is_among}
+use Rattle.drawing.specs.Tables.{Tables, drawn}
 use Rattle.merged_faces.specs.declared.removed.Freed.{Freed}
 use Rattle.merged_faces.specs.declared.removed.Removed.{Removed}
 

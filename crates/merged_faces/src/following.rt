@@ -1,6 +1,6 @@
 // Features follow faces that become one.
 ghost use Rattle.std.specs.Prelude.{◌≡◌, ◌∷◌, [], OnOk};
-ghost use Rattle.topo_model.specs.Drawing.{Drawing};
+ghost use Rattle.drawing.specs.Drawing.{Drawing};
 ghost use Rattle.read_set.specs.Drafted.{IsDraftOf};
 ghost use Rattle.relation_rows.specs.KnownRows.{KnowsRows};
 ghost use Rattle.merged_faces.specs.Merging.{one_by_one, with_relations};

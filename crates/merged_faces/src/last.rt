@@ -1,7 +1,7 @@
 // The box of the face that is kept, and the faces that go.
 ghost use Rattle.std.specs.Prelude.{◌≡◌, ◌≤◌, ◌+◌, ◌++◌, map, IfOk, OnOk};
 ghost use Rattle.std.specs.List.{sum_by};
-ghost use Rattle.topo_model.specs.Tables.{drawn, face_box};
+ghost use Rattle.drawing.specs.Tables.{drawn, face_box};
 ghost use Rattle.edit_conditions.specs.Counted.{point_steps};
 ghost use Rattle.face_boxes.specs.Bounds.{box_write};
 ghost use Rattle.merged_faces.specs.Last.{drop_face, last_writes};

@@ -2,10 +2,10 @@
 ghost use Rattle.std.specs.Prelude.{◌≡◌, ℕ, List, IsTrue, OnOk};
 ghost use Rattle.topo_base.specs.declared.rows.Counters.{Counters as CountersValue};
 ghost use Rattle.topo_base.specs.declared.rows.FaceRow.{FaceRow as FaceValue};
-ghost use Rattle.topo_model.specs.Drawing.{Drawing, Edge};
-ghost use Rattle.topo_model.specs.Tables.{tables_of};
-ghost use Rattle.topo_model.specs.Writable.{has_face_row};
-ghost use Rattle.topo_model.specs.Writes.{all_written};
+ghost use Rattle.drawing.specs.Drawing.{Drawing, Edge};
+ghost use Rattle.drawing.specs.Tables.{tables_of};
+ghost use Rattle.drawing.specs.Writable.{has_face_row};
+ghost use Rattle.drawing.specs.Writes.{all_written};
 ghost use Rattle.read_set.specs.Drafted.{IsDraftOf};
 ghost use Rattle.merged_faces.specs.Last.{last_writes};
 ghost use Rattle.merged_faces.specs.Merge.{HasMerge, IsMerge, MayGo, merged_in};

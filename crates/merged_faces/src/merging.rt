@@ -1,8 +1,8 @@
 // The faces on the two sides of a removed edge become one.
 ghost use Rattle.std.specs.Prelude.{◌≡◌, ◌==◌, ◌∷◌, [], ◌+◌, ◌<◌, ◌^◌, true, false, IfOk, OnOk};
-ghost use Rattle.topo_model.specs.Drawing.{Drawing, Edge};
-ghost use Rattle.topo_model.specs.Outcome.{the_face};
-ghost use Rattle.topo_model.specs.Tables.{tables_of};
+ghost use Rattle.drawing.specs.Drawing.{Drawing, Edge};
+ghost use Rattle.drawing.specs.Outcome.{the_face};
+ghost use Rattle.drawing.specs.Tables.{tables_of};
 ghost use Rattle.read_set.specs.Drafted.{IsDraftOf};
 ghost use Rattle.merged_faces.specs.Merging.{AreSides, HasRemoved, WasRemoved, kept_alone, kept_anew, kept_of_two, with_merged, with_new_face};
 

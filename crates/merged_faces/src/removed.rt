@@ -1,6 +1,6 @@
 // A removed edge, and its end nodes that have no edge any more.
 ghost use Rattle.std.specs.Prelude.{◌≡◌, ◌+◌, ◌*◌, ◌≤◌, length};
-ghost use Rattle.topo_model.specs.Tables.{drawn, drawn_edge};
+ghost use Rattle.drawing.specs.Tables.{drawn, drawn_edge};
 ghost use Rattle.merged_faces.specs.Sides.{freed_if, freed_in, is_freed, is_given, removed_of};
 
 use edit_conditions::is_isolated;

@@ -1,12 +1,12 @@
 // The row writes by which sides and containing faces follow where faces become one.
 ghost use Rattle.std.specs.Prelude.{◌≡◌, ◌≤◌, ◌+◌, ◌*◌, ◌++◌, flat_map, length, IfOk, IsTrue, OnOk};
 ghost use Rattle.topo_base.specs.declared.rows.Counters.{Counters};
-ghost use Rattle.topo_model.specs.Drawing.{Drawing, Edge};
-ghost use Rattle.topo_model.specs.Places.{rows_of};
-ghost use Rattle.topo_model.specs.Relations.{is_among};
-ghost use Rattle.topo_model.specs.Tables.{Tables as TablesValue};
-ghost use Rattle.topo_model.specs.Writable.{CanWriteAll, has_face_row};
-ghost use Rattle.topo_model.specs.Writes.{all_written};
+ghost use Rattle.drawing.specs.Drawing.{Drawing, Edge};
+ghost use Rattle.drawing.specs.Places.{rows_of};
+ghost use Rattle.drawing.specs.Relations.{is_among};
+ghost use Rattle.drawing.specs.Tables.{Tables as TablesValue};
+ghost use Rattle.drawing.specs.Writable.{CanWriteAll, has_face_row};
+ghost use Rattle.drawing.specs.Writes.{all_written};
 ghost use Rattle.merged_faces.specs.MergedSides.{HasRest, IsLess, with_renamed};
 ghost use Rattle.merged_faces.specs.Sides.{comes_in, edge_write, lies_among, node_write, renamed_writes, set_containing, set_side, side_write};
 

@@ -1,22 +1,22 @@
 -- The parities at the two ends of a step, and on its two sides.
 use Rattle.std.proofs.Common.{◌≡◌, ◌≢◌, refl, sym, ◌∙◌, subst, subst₂, arith, ℤ, pos, ◌<ℤ◌, ◌≤ℤ◌, ◌⊎◌, inl, inr, ⊎_elim, Bool, true, false, not, ◌&&◌, List, [], ◌∷◌}
 use Rattle.std.specs.Prelude.{int_lt}
-use Rattle.topo_model.proofs.Ring.{signed}
-use Rattle.topo_model.proofs.Signs.{order}
-use Rattle.topo_model.proofs.Collinear.{area_start, on_round}
-use Rattle.topo_model.proofs.Points.{point_on}
-use Rattle.topo_model.proofs.Parity.{edge_parity}
-use Rattle.topo_model.proofs.Chain.{nothing, clear_back}
-use Rattle.topo_model.proofs.Upright.{upright_parity}
+use Rattle.plane.proofs.Ring.{signed}
+use Rattle.plane.proofs.Signs.{order}
+use Rattle.plane.proofs.Collinear.{area_start, on_round}
+use Rattle.plane.proofs.Points.{point_on}
+use Rattle.plane.proofs.Parity.{edge_parity}
+use Rattle.plane.proofs.Chain.{nothing, clear_back}
+use Rattle.plane.proofs.Upright.{upright_parity}
 use Rattle.topo_base.specs.Point.{Point, same_point}
-use Rattle.topo_model.specs.Segment.{Segment}
+use Rattle.plane.specs.Segment.{Segment}
 use Rattle.topo_base.specs.RationalPoint.{IsBetween, rational}
-use Rattle.topo_model.specs.RationalTests.{IsOn}
-use Rattle.topo_model.specs.Relation.{AreApart}
-use Rattle.topo_model.specs.Orientation.{area}
-use Rattle.topo_model.proofs.Crossings.{over, back, crosses, passed}
-use Rattle.topo_model.specs.Faces.{xor}
-use Rattle.topo_model.specs.Direction.{Direction}
+use Rattle.plane.specs.RationalTests.{IsOn}
+use Rattle.plane.specs.Relation.{AreApart}
+use Rattle.plane.specs.Orientation.{area}
+use Rattle.plane.specs.Crossings.{over, back, crosses, passed}
+use Rattle.plane.specs.Parity.{xor}
+use Rattle.plane.specs.Direction.{Direction}
 use Rattle.parity_laws.specs.Steps.{direction, before, leaves_before, twin, odd, Each, Even, above, turned, times, left}
 use Rattle.parity_laws.specs.Ways.{Onward, Apart, Fork, Meets, Tied}
 use Rattle.parity_laws.proofs.Sums.{xor_none, xor_comm, xor_self, odd_both, odd_each, each_map, equal, summing}

@@ -1,6 +1,6 @@
 -- Where a line that comes makes no new face, each face keeps its steps.
 use Rattle.std.proofs.Common.{◌≡◌, refl, sym, Bool, List}
-use Rattle.topo_model.specs.Segment.{Segment}
+use Rattle.plane.specs.Segment.{Segment}
 use Rattle.parity_laws.specs.Steps.{Even, left}
 use Rattle.parity_laws.specs.Rings.{In, Within, Drawn, Ringwise, Sided}
 use Rattle.parity_laws.proofs.Climbing.{by_two}

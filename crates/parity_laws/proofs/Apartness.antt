@@ -3,17 +3,17 @@ use Rattle.std.proofs.Common.{◌≡◌, ◌≢◌, refl, sym, ◌∙◌, ap, su
 use Rattle.std.specs.Prelude.{neg_ℤ, int_lt}
 use Rattle.std.proofs.lemmas.Bool.{both_ways}
 use Rattle.std.proofs.Math.IntN.{*ℤ-zero}
-use Rattle.topo_model.proofs.Ring.{multiplied, signed}
-use Rattle.topo_model.proofs.Signs.{order, mul_positive, no_zero_divisor, times_one}
-use Rattle.topo_model.proofs.Collinear.{on_round}
-use Rattle.topo_model.proofs.Points.{point_on}
-use Rattle.topo_model.proofs.LineLemmas.{end_on as on_between}
+use Rattle.plane.proofs.Ring.{multiplied, signed}
+use Rattle.plane.proofs.Signs.{order, mul_positive, no_zero_divisor, times_one}
+use Rattle.plane.proofs.Collinear.{on_round}
+use Rattle.plane.proofs.Points.{point_on}
+use Rattle.plane.proofs.LineLemmas.{end_on as on_between}
 use Rattle.topo_base.specs.Point.{Point}
-use Rattle.topo_model.specs.Segment.{Segment}
+use Rattle.plane.specs.Segment.{Segment}
 use Rattle.topo_base.specs.RationalPoint.{RationalPoint, IsBetween, rational, SamePoint}
-use Rattle.topo_model.specs.RationalTests.{IsOn}
-use Rattle.topo_model.specs.Orientation.{area}
-use Rattle.topo_model.specs.Direction.{Direction, direction_to, cross}
+use Rattle.plane.specs.RationalTests.{IsOn}
+use Rattle.plane.specs.Orientation.{area}
+use Rattle.plane.specs.Direction.{Direction, direction_to, cross}
 use Rattle.parity_laws.specs.Steps.{direction, rightward}
 use Rattle.parity_laws.specs.Ways.{Apart, Fork}
 use Rattle.parity_laws.proofs.Tests.{area_turned, crossed_turned, yes_lt, no_lt, zero_neg, area_back}

@@ -2,9 +2,9 @@
 use Rattle.std.proofs.Common.{◌≡◌, sym, ◌∙◌, subst, arith, ◌<ℤ◌, ◌⊎◌, inl, inr, ⊎_elim, Bool, true, false, List}
 use Rattle.std.specs.Prelude.{int_lt}
 use Rattle.std.proofs.lemmas.Bool.{both_ways}
-use Rattle.topo_model.proofs.Ring.{signed}
-use Rattle.topo_model.specs.Segment.{Segment}
-use Rattle.topo_model.specs.Faces.{xor}
+use Rattle.plane.proofs.Ring.{signed}
+use Rattle.plane.specs.Segment.{Segment}
+use Rattle.plane.specs.Parity.{xor}
 use Rattle.topo_base.specs.Point.{same_point}
 use Rattle.parity_laws.specs.Steps.{Even, direction, before, above, left}
 use Rattle.parity_laws.specs.Rings.{In, Within, those, First, View}

@@ -2,9 +2,9 @@
 use Rattle.std.proofs.Common.{◌≡◌, refl, ◌∙◌, ap, arith, ℤ, pos, ◌-ℤ◌, ◌*ℤ◌, ◌<ℤ◌, ◌≤ℤ◌, ⊎_elim, Bool, true, false, not, ◌&&◌}
 use Rattle.std.specs.Prelude.{neg_ℤ, ◌||◌, int_lt}
 use Rattle.std.proofs.Math.IntN.{*ℤ-zero, zero-*ℤ}
-use Rattle.topo_model.proofs.Ring.{multiplied, signed}
-use Rattle.topo_model.proofs.Signs.{order}
-use Rattle.topo_model.specs.Direction.{Direction, cross}
+use Rattle.plane.proofs.Ring.{multiplied, signed}
+use Rattle.plane.proofs.Signs.{order}
+use Rattle.plane.specs.Direction.{Direction, cross}
 use Rattle.parity_laws.specs.Steps.{rightward, first_of, before}
 use Rattle.parity_laws.proofs.HalfTurns.{Upper, crossed_onward}
 use Rattle.parity_laws.proofs.Tests.{lt_yes, yes_lt, no_lt, crossed_turned}

@@ -1,9 +1,9 @@
 -- A line that closes a ring in a face: what the other rings of the face are, and that the shells of the other faces stay.
 use Rattle.std.proofs.Common.{◌≡◌, ◌≢◌, ℕ, refl, sym, ◌∙◌, ap, inl, ⊎_elim, Bool, true, false, not, List, ◌∷◌}
 use Rattle.std.proofs.lemmas.Bool.{both_ways, false_from_ne_true}
-use Rattle.topo_model.specs.Segment.{Segment}
-use Rattle.topo_model.specs.Faces.{xor}
-use Rattle.topo_model.proofs.Crossings.{back}
+use Rattle.plane.specs.Segment.{Segment}
+use Rattle.plane.specs.Parity.{xor}
+use Rattle.plane.specs.Crossings.{back}
 use Rattle.parity_laws.specs.Steps.{left}
 use Rattle.parity_laws.specs.Rings.{In, those}
 use Rattle.parity_laws.specs.Shelling.{IsRingOf, IsShellOf, OneShell, NoShell}

@@ -1,15 +1,15 @@
 -- The parity left of a step stays round a corner.
 use Rattle.std.proofs.Common.{◌≡◌, ◌≢◌, refl, sym, ◌∙◌, ap, subst, subst₂, arith, ◌<ℤ◌, ◌≤ℤ◌, ◌⊎◌, inl, inr, ⊎_elim, Bool, true, false, not, cond, ◌&&◌, List, [], ◌∷◌}
 use Rattle.std.specs.Prelude.{◌||◌}
-use Rattle.topo_model.proofs.Ring.{signed}
-use Rattle.topo_model.proofs.Signs.{order}
-use Rattle.topo_model.proofs.Collinear.{on_round}
+use Rattle.plane.proofs.Ring.{signed}
+use Rattle.plane.proofs.Signs.{order}
+use Rattle.plane.proofs.Collinear.{on_round}
 use Rattle.topo_base.specs.Point.{Point, same_point}
-use Rattle.topo_model.specs.Segment.{Segment}
-use Rattle.topo_model.specs.Relation.{AreApart}
-use Rattle.topo_model.specs.Faces.{xor}
-use Rattle.topo_model.proofs.Crossings.{back}
-use Rattle.topo_model.specs.Direction.{Direction}
+use Rattle.plane.specs.Segment.{Segment}
+use Rattle.plane.specs.Relation.{AreApart}
+use Rattle.plane.specs.Parity.{xor}
+use Rattle.plane.specs.Crossings.{back}
+use Rattle.plane.specs.Direction.{Direction}
 use Rattle.parity_laws.specs.Steps.{direction, before, leaves_before, twin, odd, Each, Even, above, turned, times, left}
 use Rattle.parity_laws.specs.Ways.{Onward, Fork, Meets, Tied, inside, Outside}
 use Rattle.parity_laws.proofs.Sums.{xor_comm, odd_both, odd_each, each_map, summing}

@@ -1,8 +1,8 @@
 -- A list with the steps of a cut list is this list in another order: it has the same sides, rings and shells.
 use Rattle.std.proofs.Common.{◌≡◌, ℕ, refl, sym, ◌∙◌, ap, subst, inl, inr, ⊎_elim, Bool, true, false, cond, List, [], ◌∷◌, ◌++◌}
 use Rattle.topo_base.specs.Point.{Point}
-use Rattle.topo_model.specs.Segment.{Segment}
-use Rattle.topo_model.proofs.Crossings.{back}
+use Rattle.plane.specs.Segment.{Segment}
+use Rattle.plane.specs.Crossings.{back}
 use Rattle.parity_laws.specs.Steps.{Each, above}
 use Rattle.parity_laws.specs.Ways.{Tied}
 use Rattle.parity_laws.specs.Cuts.{Inner, first_part, last_part, parts, cut}

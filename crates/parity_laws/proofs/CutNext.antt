@@ -1,9 +1,9 @@
 -- The step after each step where a list is cut: corners stay, and the two parts of a step follow each other.
 use Rattle.std.proofs.Common.{◌≡◌, refl, sym, ◌∙◌, ap, subst, ◌⊎◌, inl, inr, ⊎_elim, Bool, true, false, cond, List}
 use Rattle.topo_base.specs.Point.{Point}
-use Rattle.topo_model.specs.Segment.{Segment}
-use Rattle.topo_model.specs.Direction.{Direction}
-use Rattle.topo_model.proofs.Crossings.{back}
+use Rattle.plane.specs.Segment.{Segment}
+use Rattle.plane.specs.Direction.{Direction}
+use Rattle.plane.specs.Crossings.{back}
 use Rattle.parity_laws.specs.Steps.{direction}
 use Rattle.parity_laws.specs.Ways.{inside, Outside}
 use Rattle.parity_laws.specs.Cuts.{Inner, first_part, last_part, cut}

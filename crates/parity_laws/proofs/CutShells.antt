@@ -1,7 +1,7 @@
 -- Rings and shells of a list of steps and of the list cut at a point are the same.
 use Rattle.std.proofs.Common.{ℕ, sym, ◌∙◌, ap, Bool, List}
 use Rattle.topo_base.specs.Point.{Point}
-use Rattle.topo_model.specs.Segment.{Segment}
+use Rattle.plane.specs.Segment.{Segment}
 use Rattle.parity_laws.specs.Steps.{left}
 use Rattle.parity_laws.specs.Cuts.{cut}
 use Rattle.parity_laws.specs.Rings.{OneRing, those}

@@ -1,8 +1,8 @@
 -- Each part of a cut step has on its left what its step has.
 use Rattle.std.proofs.Common.{◌≡◌, sym, ◌∙◌, ap, ⊎_elim, Bool, List}
 use Rattle.topo_base.specs.Point.{Point}
-use Rattle.topo_model.specs.Segment.{Segment}
-use Rattle.topo_model.specs.Faces.{xor}
+use Rattle.plane.specs.Segment.{Segment}
+use Rattle.plane.specs.Parity.{xor}
 use Rattle.parity_laws.specs.Steps.{Even, direction, above, turned, left}
 use Rattle.parity_laws.specs.Cuts.{cut}
 use Rattle.parity_laws.specs.Rings.{In, Next, Within, Ringwise, Sided, those}

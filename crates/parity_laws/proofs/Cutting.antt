@@ -2,19 +2,19 @@
 use Rattle.std.proofs.Common.{◌≡◌, ◌≢◌, refl, sym, ◌∙◌, ap, arith, ℤ, pos, ◌-ℤ◌, ◌*ℤ◌, ◌<ℤ◌, ◌≤ℤ◌, inl, inr, ⊎_elim, Bool, true, false, not, cond, ◌&&◌, List, [], ◌∷◌}
 use Rattle.std.specs.Prelude.{neg_ℤ, int_lt}
 use Rattle.std.proofs.Math.IntN.{*ℤ-zero, zero-*ℤ}
-use Rattle.topo_model.proofs.Diff.{diff-same}
-use Rattle.topo_model.proofs.Wide.{summed}
-use Rattle.topo_model.proofs.Ring.{multiplied, signed, mul_comm}
-use Rattle.topo_model.proofs.Signs.{order, mul_positive, mul_not_negative, no_zero_divisor}
-use Rattle.topo_model.proofs.Probe.{test_same}
-use Rattle.topo_model.proofs.Chain.{nothing}
+use Rattle.plane.proofs.Diff.{diff-same}
+use Rattle.plane.proofs.Wide.{summed}
+use Rattle.plane.proofs.Ring.{multiplied, signed, mul_comm}
+use Rattle.plane.proofs.Signs.{order, mul_positive, mul_not_negative, no_zero_divisor}
+use Rattle.plane.proofs.Probe.{test_same}
+use Rattle.plane.proofs.Chain.{nothing}
 use Rattle.topo_base.specs.Point.{Point, same_point}
-use Rattle.topo_model.specs.Segment.{Segment}
+use Rattle.plane.specs.Segment.{Segment}
 use Rattle.topo_base.specs.RationalPoint.{IsBetween}
-use Rattle.topo_model.specs.Orientation.{area}
-use Rattle.topo_model.proofs.Crossings.{over, back, crosses}
-use Rattle.topo_model.specs.Faces.{xor}
-use Rattle.topo_model.specs.Direction.{Direction, cross}
+use Rattle.plane.specs.Orientation.{area}
+use Rattle.plane.specs.Crossings.{over, back, crosses}
+use Rattle.plane.specs.Parity.{xor}
+use Rattle.plane.specs.Direction.{Direction, cross}
 use Rattle.parity_laws.specs.Steps.{direction, before, leaves_before, odd, Each, Even, above, turned, left}
 use Rattle.parity_laws.specs.Cuts.{Inner, first_part, last_part, parts, cut}
 use Rattle.parity_laws.proofs.Sums.{xor_none, xor_comm, odd_append, odd_each, summing, xor_between}

@@ -1,9 +1,9 @@
 -- A line with both ends on one ring cuts it: no ring has both of its directions.
 use Rattle.std.proofs.Common.{◌≡◌, refl, sym, ◌∙◌, ap, subst, inl, inr, ⊎_elim, Bool, true, false, List, [], ◌∷◌, ◌++◌}
 use Rattle.std.proofs.lemmas.Bool.{both_ways}
-use Rattle.topo_model.specs.Segment.{Segment}
-use Rattle.topo_model.specs.Faces.{xor}
-use Rattle.topo_model.proofs.Crossings.{back}
+use Rattle.plane.specs.Segment.{Segment}
+use Rattle.plane.specs.Parity.{xor}
+use Rattle.plane.specs.Crossings.{back}
 use Rattle.parity_laws.specs.Steps.{odd, Even, twin, times, left}
 use Rattle.parity_laws.specs.Walks.{Chained}
 use Rattle.parity_laws.specs.Rings.{In, Next, Within, Once, Ringwise, OneRing}

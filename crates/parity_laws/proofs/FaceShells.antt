@@ -1,7 +1,7 @@
 -- A face other than 0 that has a step has a shell, and two rings of a face with at most one shell are not linked.
 use Rattle.std.proofs.Common.{◌≡◌, refl, ◌∙◌, ℕ, ◌⊎◌, ⊎_elim, Bool, true, false, List}
 use Rattle.std.proofs.lemmas.Bool.{both_ways, false_from_ne_true, eqb-true, eq-eqb}
-use Rattle.topo_model.specs.Segment.{Segment}
+use Rattle.plane.specs.Segment.{Segment}
 use Rattle.parity_laws.specs.Steps.{left}
 use Rattle.parity_laws.specs.Rings.{In, those, Drawn, Ringwise, Sided, of_face}
 use Rattle.parity_laws.proofs.Splitting.{Top, highest, highest_is_shell}

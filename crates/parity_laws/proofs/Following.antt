@@ -3,9 +3,9 @@ use Rattle.std.proofs.Common.{◌≡◌, refl, sym, ◌∙◌, ap, subst, ⊎_el
 use Rattle.std.specs.Prelude.{◌||◌}
 use Rattle.std.proofs.lemmas.Bool.{both_ways}
 use Rattle.topo_base.specs.Point.{same_point}
-use Rattle.topo_model.specs.Segment.{Segment}
-use Rattle.topo_model.specs.Direction.{Direction}
-use Rattle.topo_model.proofs.Crossings.{back}
+use Rattle.plane.specs.Segment.{Segment}
+use Rattle.plane.specs.Direction.{Direction}
+use Rattle.plane.specs.Crossings.{back}
 use Rattle.parity_laws.specs.Steps.{direction, before}
 use Rattle.parity_laws.specs.Ways.{Apart, Outside, inside}
 use Rattle.parity_laws.specs.Rings.{In, Next, Plain}

@@ -3,22 +3,22 @@ use Rattle.std.proofs.Common.{◌≡◌, refl, sym, ◌∙◌, ap, subst, arith,
 use Rattle.std.specs.Prelude.{int_lt}
 use Rattle.std.proofs.lemmas.Bool.{both_ways, false_from_ne_true}
 use Rattle.std.proofs.Math.IntN.{*ℤ-zero}
-use Rattle.topo_model.proofs.Diff.{diff-same}
-use Rattle.topo_model.proofs.Wide.{summed}
-use Rattle.topo_model.proofs.Ring.{multiplied, signed, mul_comm}
-use Rattle.topo_model.proofs.Signs.{order, mul_positive, no_zero_divisor}
-use Rattle.topo_model.proofs.Probe.{factor_positive}
-use Rattle.topo_model.proofs.Scale.{on_smaller, smaller_spot}
-use Rattle.topo_model.proofs.LineLemmas.{end_on as on_between}
+use Rattle.plane.proofs.Diff.{diff-same}
+use Rattle.plane.proofs.Wide.{summed}
+use Rattle.plane.proofs.Ring.{multiplied, signed, mul_comm}
+use Rattle.plane.proofs.Signs.{order, mul_positive, no_zero_divisor}
+use Rattle.plane.proofs.Probe.{factor_positive}
+use Rattle.plane.proofs.Scale.{on_smaller, smaller_spot}
+use Rattle.plane.proofs.LineLemmas.{end_on as on_between}
 use Rattle.topo_base.specs.Point.{Point, same_point}
-use Rattle.topo_model.specs.Segment.{Segment}
+use Rattle.plane.specs.Segment.{Segment}
 use Rattle.topo_base.specs.RationalPoint.{rational}
-use Rattle.topo_model.specs.RationalTests.{IsOn}
-use Rattle.topo_model.specs.Relation.{AreApart}
-use Rattle.topo_model.specs.Orientation.{area}
-use Rattle.topo_model.proofs.Crossings.{over, back, crosses, larger, larger_segment}
-use Rattle.topo_model.specs.Faces.{xor}
-use Rattle.topo_model.specs.Direction.{cross}
+use Rattle.plane.specs.RationalTests.{IsOn}
+use Rattle.plane.specs.Relation.{AreApart}
+use Rattle.plane.specs.Orientation.{area}
+use Rattle.plane.specs.Crossings.{over, back, crosses, larger, larger_segment}
+use Rattle.plane.specs.Parity.{xor}
+use Rattle.plane.specs.Direction.{cross}
 use Rattle.parity_laws.specs.Steps.{direction, rightward, twin, above, times}
 use Rattle.parity_laws.specs.Ways.{Tied, Meets, Fork}
 use Rattle.parity_laws.specs.Rings.{In, Plain, Within}

@@ -1,21 +1,21 @@
 -- The way from the start of a step to the foot on it, and what the foot sees.
 use Rattle.std.proofs.Common.{◌≡◌, ◌≢◌, refl, sym, ◌∙◌, ap, subst, arith, ℤ, pos, ◌-ℤ◌, ◌*ℤ◌, ◌+ℤ◌, ◌<ℤ◌, ◌≤ℤ◌, ◌⊎◌, inl, inr, ⊎_elim, Bool, true, false, List, [], ◌∷◌, map}
 use Rattle.std.proofs.Math.IntN.{*ℤ-zero}
-use Rattle.topo_model.proofs.Ring.{multiplied, signed, mul_comm}
-use Rattle.topo_model.proofs.Signs.{order, mul_positive, mul_le, no_zero_divisor, cancel, times_one}
-use Rattle.topo_model.proofs.Points.{point_upward}
-use Rattle.topo_model.proofs.Unique.{unique}
-use Rattle.topo_model.proofs.Scale.{on_smaller, smaller_spot}
-use Rattle.topo_model.proofs.LineLemmas.{end_on as on_between}
+use Rattle.plane.proofs.Ring.{multiplied, signed, mul_comm}
+use Rattle.plane.proofs.Signs.{order, mul_positive, mul_le, no_zero_divisor, cancel, times_one}
+use Rattle.plane.proofs.Points.{point_upward}
+use Rattle.plane.proofs.Unique.{unique}
+use Rattle.plane.proofs.Scale.{on_smaller, smaller_spot}
+use Rattle.plane.proofs.LineLemmas.{end_on as on_between}
 use Rattle.topo_base.specs.Point.{Point}
-use Rattle.topo_model.specs.Segment.{Segment}
+use Rattle.plane.specs.Segment.{Segment}
 use Rattle.topo_base.specs.RationalPoint.{RationalPoint, IsBetween, rational}
-use Rattle.topo_model.specs.RationalTests.{IsOn, area_at}
-use Rattle.topo_model.specs.Relation.{AreApart, turn}
-use Rattle.topo_model.specs.Orientation.{area}
-use Rattle.topo_model.proofs.Crossings.{back, larger, larger_segment}
-use Rattle.topo_model.specs.Faces.{xor}
-use Rattle.topo_model.specs.Direction.{cross}
+use Rattle.plane.specs.RationalTests.{IsOn, area_at}
+use Rattle.plane.specs.Relation.{AreApart, turn}
+use Rattle.plane.specs.Orientation.{area}
+use Rattle.plane.specs.Crossings.{back, larger, larger_segment}
+use Rattle.plane.specs.Parity.{xor}
+use Rattle.plane.specs.Direction.{cross}
 use Rattle.parity_laws.specs.Steps.{Each, Even, direction, above, turned, times, left}
 use Rattle.parity_laws.specs.Ways.{Onward, Tied, Meets, Fork}
 use Rattle.parity_laws.specs.Walks.{NotAt}

@@ -2,13 +2,13 @@
 use Rattle.std.proofs.Common.{◌≡◌, refl, sym, ◌∙◌, ap, subst, arith, ℤ, pos, ◌-ℤ◌, ◌*ℤ◌, ◌<ℤ◌, ◌≤ℤ◌, inl, inr, ⊎_elim, Bool, true, false, not, ◌&&◌}
 use Rattle.std.specs.Prelude.{neg_ℤ, ◌||◌, int_lt}
 use Rattle.std.proofs.Math.IntN.{*ℤ-zero, zero-*ℤ}
-use Rattle.topo_model.proofs.Ring.{multiplied, signed, mul_comm}
-use Rattle.topo_model.proofs.Signs.{order, no_zero_divisor, times_one}
-use Rattle.topo_model.proofs.Probe.{factor_first}
-use Rattle.topo_model.specs.Segment.{Segment}
+use Rattle.plane.proofs.Ring.{multiplied, signed, mul_comm}
+use Rattle.plane.proofs.Signs.{order, no_zero_divisor, times_one}
+use Rattle.plane.proofs.Probe.{factor_first}
+use Rattle.plane.specs.Segment.{Segment}
 use Rattle.topo_base.specs.RationalPoint.{RationalPoint, IsBetween, rational, SamePoint}
-use Rattle.topo_model.specs.RationalTests.{IsOn}
-use Rattle.topo_model.specs.Direction.{Direction, cross}
+use Rattle.plane.specs.RationalTests.{IsOn}
+use Rattle.plane.specs.Direction.{Direction, cross}
 use Rattle.parity_laws.specs.Steps.{direction, rightward}
 use Rattle.parity_laws.specs.Ways.{Apart, Fork}
 use Rattle.parity_laws.proofs.Gap.{seg}

@@ -2,16 +2,16 @@
 use Rattle.std.proofs.Common.{◌≡◌, ◌≢◌, refl, sym, ◌∙◌, ap, arith, ℤ, pos, ◌-ℤ◌, ◌*ℤ◌, ◌<ℤ◌, ◌≤ℤ◌, ◌⊎◌, inl, inr, ⊎_elim, Bool, true, false, not, ◌&&◌}
 use Rattle.std.specs.Prelude.{◌||◌, int_lt}
 use Rattle.std.proofs.Math.IntN.{*ℤ-zero, zero-*ℤ}
-use Rattle.topo_model.proofs.Ring.{multiplied, signed}
-use Rattle.topo_model.proofs.Signs.{order, mul_positive}
-use Rattle.topo_model.proofs.Probe.{minus_plus, minus_minus, factor_positive}
-use Rattle.topo_model.proofs.Collinear.{area_start, area_end}
+use Rattle.plane.proofs.Ring.{multiplied, signed}
+use Rattle.plane.proofs.Signs.{order, mul_positive}
+use Rattle.plane.proofs.Probe.{minus_plus, minus_minus, factor_positive}
+use Rattle.plane.proofs.Collinear.{area_start, area_end}
 use Rattle.topo_base.specs.Point.{Point, same_point}
-use Rattle.topo_model.specs.Segment.{Segment}
-use Rattle.topo_model.specs.Orientation.{area}
-use Rattle.topo_model.proofs.Crossings.{over, back, crosses, passed}
-use Rattle.topo_model.specs.Faces.{xor}
-use Rattle.topo_model.specs.Direction.{Direction, cross}
+use Rattle.plane.specs.Segment.{Segment}
+use Rattle.plane.specs.Orientation.{area}
+use Rattle.plane.specs.Crossings.{over, back, crosses, passed}
+use Rattle.plane.specs.Parity.{xor}
+use Rattle.plane.specs.Direction.{Direction, cross}
 use Rattle.parity_laws.specs.Steps.{direction, rightward, first_of, before, leaves_before, twin}
 use Rattle.parity_laws.specs.Ways.{Onward, Apart}
 use Rattle.parity_laws.proofs.Sums.{xor_none}

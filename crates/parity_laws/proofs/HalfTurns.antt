@@ -2,12 +2,12 @@
 use Rattle.std.proofs.Common.{◌≡◌, arith, ℤ, pos, ◌+ℤ◌, ◌-ℤ◌, ◌*ℤ◌, ◌<ℤ◌, ◌≤ℤ◌, ◌⊎◌, inl, ⊎_elim}
 use Rattle.std.specs.Prelude.{neg_ℤ}
 use Rattle.std.proofs.Math.IntN.{*ℤ-zero}
-use Rattle.topo_model.proofs.Diff.{diff-same}
-use Rattle.topo_model.proofs.Ring.{multiplied, signed}
-use Rattle.topo_model.proofs.Wide.{summed}
-use Rattle.topo_model.proofs.Signs.{mul_positive, mul_not_negative, order}
-use Rattle.topo_model.proofs.Probe.{factor_first}
-use Rattle.topo_model.specs.Direction.{Direction, cross}
+use Rattle.plane.proofs.Diff.{diff-same}
+use Rattle.plane.proofs.Ring.{multiplied, signed}
+use Rattle.plane.proofs.Wide.{summed}
+use Rattle.plane.proofs.Signs.{mul_positive, mul_not_negative, order}
+use Rattle.plane.proofs.Probe.{factor_first}
+use Rattle.plane.specs.Direction.{Direction, cross}
 
 -- above the axis, or on it to the right
 pub record Upper (u : Direction) : Type 0 where

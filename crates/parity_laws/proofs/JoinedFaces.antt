@@ -2,9 +2,9 @@
 use Rattle.std.proofs.Common.{◌≡◌, ◌≢◌, refl, sym, ◌∙◌, ap, ℕ, ◌⊎◌, inl, inr, ⊎_elim, Bool, true, false, List, ◌∷◌, eqb, eq-eqb}
 use Rattle.std.proofs.lemmas.Bool.{both_ways, eqb-true, ne_eqb}
 use Rattle.topo_base.specs.Point.{Point}
-use Rattle.topo_model.specs.Segment.{Segment}
-use Rattle.topo_model.specs.Faces.{xor}
-use Rattle.topo_model.proofs.Crossings.{back, crosses}
+use Rattle.plane.specs.Segment.{Segment}
+use Rattle.plane.specs.Parity.{xor}
+use Rattle.plane.specs.Crossings.{back, crosses}
 use Rattle.parity_laws.specs.Steps.{above, left}
 use Rattle.parity_laws.specs.Rings.{In, those, Ringwise, Sided, of_face}
 use Rattle.parity_laws.proofs.Lists.{no_those}

@@ -1,9 +1,9 @@
 -- The rings on the two sides of a line that goes between two faces: they become one ring, and it is not two holes that are joined.
 use Rattle.std.proofs.Common.{◌≡◌, refl, sym, ◌∙◌, ℕ, ◌⊎◌, inl, inr, ⊎_elim, Bool, true, false, not, List, ◌∷◌, eq-eqb}
 use Rattle.std.proofs.lemmas.Bool.{both_ways, eqb-true}
-use Rattle.topo_model.specs.Segment.{Segment}
-use Rattle.topo_model.specs.Faces.{xor}
-use Rattle.topo_model.proofs.Crossings.{back}
+use Rattle.plane.specs.Segment.{Segment}
+use Rattle.plane.specs.Parity.{xor}
+use Rattle.plane.specs.Crossings.{back}
 use Rattle.parity_laws.specs.Steps.{left}
 use Rattle.parity_laws.specs.Rings.{In, Next, those, of_face}
 use Rattle.parity_laws.proofs.Star.{those_within}

@@ -1,6 +1,6 @@
 -- Labels that are equal on all steps.
 use Rattle.std.proofs.Common.{◌≡◌, refl, sym, ◌∙◌, ap, inl, inr, Bool, true, false, List, [], ◌∷◌}
-use Rattle.topo_model.specs.Segment.{Segment}
+use Rattle.plane.specs.Segment.{Segment}
 use Rattle.parity_laws.specs.Steps.{left}
 use Rattle.parity_laws.specs.Rings.{In, those, Ringwise, Sided, OneRing}
 use Rattle.parity_laws.proofs.Tests.{bool_same}

@@ -1,14 +1,14 @@
 -- A drawing in a larger plane, and what each rational point has above it.
 use Rattle.std.proofs.Common.{◌≡◌, ◌≢◌, refl, sym, ◌∙◌, ap, subst, ℕ, ℤ, pos, ◌*ℤ◌, ◌<ℤ◌, ◌⊎◌, inl, inr, ⊎_elim, true, false, List, [], ◌∷◌, map, eqb}
 use Rattle.std.proofs.lemmas.Bool.{ne_eqb}
-use Rattle.topo_model.proofs.Ring.{mul_comm}
-use Rattle.topo_model.proofs.Signs.{mul_positive}
-use Rattle.topo_model.proofs.Scale.{on_smaller, smaller_spot, crosses_larger, times_point, clear_larger}
-use Rattle.topo_model.specs.Segment.{Segment}
+use Rattle.plane.proofs.Ring.{mul_comm}
+use Rattle.plane.proofs.Signs.{mul_positive}
+use Rattle.plane.proofs.Scale.{on_smaller, smaller_spot, crosses_larger, times_point, clear_larger}
+use Rattle.plane.specs.Segment.{Segment}
 use Rattle.topo_base.specs.RationalPoint.{RationalPoint}
-use Rattle.topo_model.specs.RationalTests.{IsOn}
-use Rattle.topo_model.specs.Relation.{AreApart}
-use Rattle.topo_model.proofs.Crossings.{back, larger, larger_segment, larger_spot, way}
+use Rattle.plane.specs.RationalTests.{IsOn}
+use Rattle.plane.specs.Relation.{AreApart}
+use Rattle.plane.specs.Crossings.{back, larger, larger_segment, larger_spot, way}
 use Rattle.parity_laws.specs.Steps.{Each, Even, direction, above, left, before, above_at}
 use Rattle.parity_laws.specs.Ways.{Tied, Meets, Fork}
 use Rattle.parity_laws.specs.Rings.{In, Within, Once, those, Drawn, Ringwise, Sided, of_face}

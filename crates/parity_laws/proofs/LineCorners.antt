@@ -1,7 +1,7 @@
 -- The corners of a drawing where a line has come: each stays, or goes on along the line.
 use Rattle.std.proofs.Common.{◌≡◌, ◌≢◌, refl, sym, ◌∙◌, ap, subst, ◌⊎◌, inl, inr, ⊎_elim, Bool, List, ◌∷◌}
-use Rattle.topo_model.specs.Segment.{Segment}
-use Rattle.topo_model.proofs.Crossings.{back}
+use Rattle.plane.specs.Segment.{Segment}
+use Rattle.plane.specs.Crossings.{back}
 use Rattle.parity_laws.specs.Rings.{In, Next, Ringwise, Corner}
 use Rattle.parity_laws.specs.Coming.{both_ways_of, with_line, LineComes, Enters, CornerOfBoth}
 use Rattle.parity_laws.proofs.Following.{follows, next_same, next_apart}

@@ -1,8 +1,8 @@
 -- The face in which a line comes: both sides of each of its steps are in it, and all sides stay right.
 use Rattle.std.proofs.Common.{◌≡◌, ◌≢◌, refl, sym, ◌∙◌, ap, inl, ⊎_elim, Bool, false, List, ◌∷◌}
-use Rattle.topo_model.specs.Segment.{Segment}
-use Rattle.topo_model.specs.Faces.{xor}
-use Rattle.topo_model.proofs.Crossings.{back}
+use Rattle.plane.specs.Segment.{Segment}
+use Rattle.plane.specs.Parity.{xor}
+use Rattle.plane.specs.Crossings.{back}
 use Rattle.parity_laws.specs.Steps.{Even, direction, above, times, left}
 use Rattle.parity_laws.specs.Walks.{NotAt}
 use Rattle.parity_laws.specs.Rings.{In, Next, Within, those, Ringwise, Sided}

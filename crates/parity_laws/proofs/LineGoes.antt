@@ -2,8 +2,8 @@
 use Rattle.std.proofs.Common.{◌≡◌, ◌≢◌, refl, sym, ◌∙◌, subst, ℕ, inl, inr, Bool, true, false, List, [], ◌∷◌, eqb, eq-eqb}
 use Rattle.std.proofs.lemmas.Bool.{both_ways, eqb-true}
 use Rattle.topo_base.specs.Point.{Point}
-use Rattle.topo_model.specs.Segment.{Segment}
-use Rattle.topo_model.proofs.Crossings.{back}
+use Rattle.plane.specs.Segment.{Segment}
+use Rattle.plane.specs.Crossings.{back}
 use Rattle.parity_laws.specs.Steps.{above}
 use Rattle.parity_laws.specs.Ways.{Tied}
 use Rattle.parity_laws.specs.Rings.{In, Plain, Within, Once, Drawn, those, Ringwise, Sided, of_face}

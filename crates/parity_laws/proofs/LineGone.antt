@@ -1,8 +1,8 @@
 -- What stays where a line goes: labels, sides, and the rings that the line is not on.
 use Rattle.std.proofs.Common.{◌≡◌, ◌≢◌, refl, sym, ◌∙◌, ap, subst, ◌⊎◌, inl, ⊎_elim, Bool, true, false, cond, List, ◌∷◌, ◌++◌}
 use Rattle.topo_base.specs.Point.{Point}
-use Rattle.topo_model.specs.Segment.{Segment}
-use Rattle.topo_model.proofs.Crossings.{over, back, crosses}
+use Rattle.plane.specs.Segment.{Segment}
+use Rattle.plane.specs.Crossings.{over, back, crosses}
 use Rattle.parity_laws.specs.Steps.{Even, above, left}
 use Rattle.parity_laws.specs.Rings.{In, Within, those, Ringwise, Sided}
 use Rattle.parity_laws.proofs.Sums.{xor_comm}

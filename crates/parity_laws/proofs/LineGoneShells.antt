@@ -1,8 +1,8 @@
 -- Shells that the line is not on are shells with the line and without it.
 use Rattle.std.proofs.Common.{◌≡◌, ◌≢◌, refl, sym, ◌∙◌, ap, ℕ, Bool, true, false, List, ◌∷◌}
 use Rattle.std.proofs.lemmas.Bool.{both_ways, false_from_ne_true}
-use Rattle.topo_model.specs.Segment.{Segment}
-use Rattle.topo_model.proofs.Crossings.{back}
+use Rattle.plane.specs.Segment.{Segment}
+use Rattle.plane.specs.Crossings.{back}
 use Rattle.parity_laws.specs.Steps.{left}
 use Rattle.parity_laws.specs.Rings.{In, those, Drawn, Ringwise, OneRing, of_face}
 use Rattle.parity_laws.specs.Shelling.{IsShellOf, OneShell, NoShell}

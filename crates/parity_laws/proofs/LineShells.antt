@@ -1,9 +1,9 @@
 -- The faces of a drawing where a line comes, and their shells where it closes no ring.
 use Rattle.std.proofs.Common.{◌≡◌, ◌≢◌, refl, sym, ◌∙◌, ap, subst, arith, ℕ, suc, zero, ◌⊎◌, inl, inr, ⊎_elim, Bool, true, false, List, ◌∷◌, eqb, eq-eqb}
 use Rattle.std.proofs.lemmas.Bool.{both_ways, eqb-true, or_cases, or_left, or_right}
-use Rattle.topo_model.specs.Segment.{Segment}
-use Rattle.topo_model.specs.Faces.{xor}
-use Rattle.topo_model.proofs.Crossings.{back}
+use Rattle.plane.specs.Segment.{Segment}
+use Rattle.plane.specs.Parity.{xor}
+use Rattle.plane.specs.Crossings.{back}
 use Rattle.parity_laws.specs.Steps.{left}
 use Rattle.parity_laws.specs.Rings.{In, Next, those, Drawn, Ringwise, OneRing, Sided, of_face}
 use Rattle.parity_laws.proofs.Sums.{xor_comm}

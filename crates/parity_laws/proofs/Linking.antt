@@ -3,8 +3,8 @@ use Rattle.std.proofs.Common.{◌≡◌, refl, sym, ◌∙◌, ap, ◌⊎◌, in
 use Rattle.std.specs.Prelude.{◌||◌}
 use Rattle.std.proofs.lemmas.Bool.{and_from, or_right}
 use Rattle.topo_base.specs.Point.{Point, same_point}
-use Rattle.topo_model.specs.Segment.{Segment}
-use Rattle.topo_model.specs.Faces.{xor}
+use Rattle.plane.specs.Segment.{Segment}
+use Rattle.plane.specs.Parity.{xor}
 use Rattle.parity_laws.specs.Steps.{odd, Each}
 use Rattle.parity_laws.specs.Rings.{In, Within}
 use Rattle.parity_laws.proofs.Sums.{xor_comm, xor_self, odd_append, summing}

@@ -1,6 +1,6 @@
 -- Lists of steps joined, and the labelled steps of them.
 use Rattle.std.proofs.Common.{◌≡◌, ap, inl, inr, ⊎_elim, refl, Bool, true, false, cond, List, [], ◌∷◌, ◌++◌}
-use Rattle.topo_model.specs.Segment.{Segment}
+use Rattle.plane.specs.Segment.{Segment}
 use Rattle.parity_laws.specs.Steps.{Each}
 use Rattle.parity_laws.specs.Rings.{In, those}
 

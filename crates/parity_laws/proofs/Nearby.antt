@@ -3,18 +3,18 @@ use Rattle.std.proofs.Common.{◌≡◌, ◌≢◌, refl, sym, ◌∙◌, ap, su
 use Rattle.std.specs.Prelude.{neg_ℤ, ◌||◌, int_lt}
 use Rattle.std.proofs.lemmas.Bool.{both_ways}
 use Rattle.std.proofs.Math.IntN.{*ℤ-zero}
-use Rattle.topo_model.proofs.Ring.{multiplied, signed}
-use Rattle.topo_model.proofs.Signs.{order, mul_le, no_zero_divisor, times_one}
-use Rattle.topo_model.proofs.Collinear.{on_round}
+use Rattle.plane.proofs.Ring.{multiplied, signed}
+use Rattle.plane.proofs.Signs.{order, mul_le, no_zero_divisor, times_one}
+use Rattle.plane.proofs.Collinear.{on_round}
 use Rattle.topo_base.specs.Point.{Point, same_point}
-use Rattle.topo_model.specs.Segment.{Segment}
+use Rattle.plane.specs.Segment.{Segment}
 use Rattle.topo_base.specs.RationalPoint.{RationalPoint, IsBetween, rational, SamePoint}
-use Rattle.topo_model.specs.RationalTests.{IsOn, area_at}
-use Rattle.topo_model.specs.Relation.{AreApart}
-use Rattle.topo_model.specs.Orientation.{area}
-use Rattle.topo_model.proofs.Crossings.{back}
-use Rattle.topo_model.specs.Direction.{Direction, cross}
-use Rattle.topo_model.proofs.Middle.{not_zero}
+use Rattle.plane.specs.RationalTests.{IsOn, area_at}
+use Rattle.plane.specs.Relation.{AreApart}
+use Rattle.plane.specs.Orientation.{area}
+use Rattle.plane.specs.Crossings.{back}
+use Rattle.plane.specs.Direction.{Direction, cross}
+use Rattle.plane.proofs.Middle.{not_zero}
 use Rattle.parity_laws.specs.Steps.{Each, Even, direction, rightward, first_of, before, above, left}
 use Rattle.parity_laws.specs.Ways.{Onward, Tied, Meets, Fork, Apart, inside, Outside}
 use Rattle.parity_laws.specs.Walks.{NotAt}

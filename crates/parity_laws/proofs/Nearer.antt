@@ -1,19 +1,19 @@
 -- The same where both points are rational points: one that sees a step has above it what the step has on its left.
 use Rattle.std.proofs.Common.{◌≡◌, ◌≢◌, refl, sym, ◌∙◌, ap, subst, arith, ℤ, pos, ◌-ℤ◌, ◌*ℤ◌, ◌<ℤ◌, ◌≤ℤ◌, inl, inr, ⊎_elim, List, map}
 use Rattle.std.proofs.Math.IntN.{*ℤ-zero}
-use Rattle.topo_model.proofs.Diff.{diff-same}
-use Rattle.topo_model.proofs.Wide.{summed}
-use Rattle.topo_model.proofs.Ring.{multiplied, signed, mul_comm}
-use Rattle.topo_model.proofs.Signs.{mul_positive, mul_le, no_zero_divisor, cancel, times_one}
-use Rattle.topo_model.proofs.Scale.{on_smaller, smaller_spot, clear_larger, times_point}
+use Rattle.plane.proofs.Diff.{diff-same}
+use Rattle.plane.proofs.Wide.{summed}
+use Rattle.plane.proofs.Ring.{multiplied, signed, mul_comm}
+use Rattle.plane.proofs.Signs.{mul_positive, mul_le, no_zero_divisor, cancel, times_one}
+use Rattle.plane.proofs.Scale.{on_smaller, smaller_spot, clear_larger, times_point}
 use Rattle.topo_base.specs.Point.{Point}
-use Rattle.topo_model.specs.Segment.{Segment}
+use Rattle.plane.specs.Segment.{Segment}
 use Rattle.topo_base.specs.RationalPoint.{RationalPoint, IsBetween, rational, SamePoint}
-use Rattle.topo_model.specs.RationalTests.{IsOn, area_at}
-use Rattle.topo_model.specs.Relation.{AreApart}
-use Rattle.topo_model.specs.Orientation.{area}
-use Rattle.topo_model.proofs.Crossings.{back, larger, larger_segment, way}
-use Rattle.topo_model.proofs.Middle.{not_zero, cancel_le}
+use Rattle.plane.specs.RationalTests.{IsOn, area_at}
+use Rattle.plane.specs.Relation.{AreApart}
+use Rattle.plane.specs.Orientation.{area}
+use Rattle.plane.specs.Crossings.{back, larger, larger_segment, way}
+use Rattle.plane.proofs.Middle.{not_zero, cancel_le}
 use Rattle.parity_laws.specs.Steps.{Even, above, above_at, left}
 use Rattle.parity_laws.specs.Walks.{NotAt}
 use Rattle.parity_laws.specs.Rings.{In, Within, Drawn, SeesLeft, SeesLeftAt}

@@ -2,9 +2,9 @@
 use Rattle.std.proofs.Common.{◌≡◌, refl, sym, ◌∙◌, subst, Bool, true, false, List}
 use Rattle.std.proofs.lemmas.Bool.{both_ways}
 use Rattle.topo_base.specs.Point.{Point}
-use Rattle.topo_model.specs.Segment.{Segment}
-use Rattle.topo_model.specs.Faces.{xor}
-use Rattle.topo_model.proofs.Crossings.{back}
+use Rattle.plane.specs.Segment.{Segment}
+use Rattle.plane.specs.Parity.{xor}
+use Rattle.plane.specs.Crossings.{back}
 use Rattle.parity_laws.specs.Steps.{Each, left}
 use Rattle.parity_laws.specs.Walks.{NoHigher}
 use Rattle.parity_laws.specs.Rings.{In, Plain, those, First, Drawn, Ringwise, Sided, OneRing}

@@ -2,10 +2,10 @@
 use Rattle.std.proofs.Common.{◌≡◌, refl, sym, ◌∙◌, ap, ⊎_elim, Bool, true, false, cond, ◌&&◌, List, [], ◌∷◌, ◌++◌}
 use Rattle.std.proofs.lemmas.Bool.{both_ways}
 use Rattle.topo_base.specs.Point.{Point, same_point}
-use Rattle.topo_model.specs.Direction.{Direction}
-use Rattle.topo_model.specs.Segment.{Segment}
-use Rattle.topo_model.specs.Faces.{xor}
-use Rattle.topo_model.proofs.Crossings.{over, back, crosses}
+use Rattle.plane.specs.Direction.{Direction}
+use Rattle.plane.specs.Segment.{Segment}
+use Rattle.plane.specs.Parity.{xor}
+use Rattle.plane.specs.Crossings.{over, back, crosses}
 use Rattle.parity_laws.specs.Steps.{odd, Each, direction, before, leaves_before, left}
 use Rattle.parity_laws.specs.Rings.{In, Next, those, OneRing}
 use Rattle.parity_laws.proofs.Sums.{xor_comm, xor_none, xor_self, odd_append}

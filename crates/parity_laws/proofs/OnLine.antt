@@ -3,9 +3,9 @@ use Rattle.std.proofs.Common.{◌≡◌, ◌≢◌, refl, sym, ◌∙◌, ap, su
 use Rattle.std.specs.Prelude.{◌||◌}
 use Rattle.std.proofs.lemmas.Bool.{or_left, or_right}
 use Rattle.topo_base.specs.Point.{Point, same_point}
-use Rattle.topo_model.specs.Segment.{Segment}
-use Rattle.topo_model.specs.Faces.{xor}
-use Rattle.topo_model.proofs.Crossings.{back}
+use Rattle.plane.specs.Segment.{Segment}
+use Rattle.plane.specs.Parity.{xor}
+use Rattle.plane.specs.Crossings.{back}
 use Rattle.parity_laws.specs.Steps.{Even, direction, twin, times, left}
 use Rattle.parity_laws.specs.Ways.{inside}
 use Rattle.parity_laws.specs.Walks.{Chained}

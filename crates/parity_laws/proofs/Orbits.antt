@@ -3,8 +3,8 @@ use Rattle.std.proofs.Common.{◌≡◌, refl, sym, ◌∙◌, ap, subst, arith,
 use Rattle.std.specs.Prelude.{◌||◌}
 use Rattle.std.proofs.lemmas.Bool.{both_ways, or_cases, or_left, or_right}
 use Rattle.topo_base.specs.Point.{same_point}
-use Rattle.topo_model.specs.Segment.{Segment}
-use Rattle.topo_model.specs.Faces.{xor}
+use Rattle.plane.specs.Segment.{Segment}
+use Rattle.plane.specs.Parity.{xor}
 use Rattle.parity_laws.specs.Steps.{odd, Even}
 use Rattle.parity_laws.specs.Rings.{In, Next, Plain, Within, Once, Ringwise, OneRing, those}
 use Rattle.parity_laws.proofs.Sums.{xor_self, odd_both, equal, xor_left}

@@ -1,8 +1,8 @@
 -- What the other rings of a divided face may be, from the drawing before the line.
 use Rattle.std.proofs.Common.{◌≡◌, refl, ◌∙◌, ℕ, inl, inr, Bool, true, false, not, List}
 use Rattle.std.proofs.lemmas.Bool.{both_ways}
-use Rattle.topo_model.specs.Segment.{Segment}
-use Rattle.topo_model.proofs.Crossings.{back}
+use Rattle.plane.specs.Segment.{Segment}
+use Rattle.plane.specs.Crossings.{back}
 use Rattle.parity_laws.specs.Steps.{left}
 use Rattle.parity_laws.specs.Rings.{In, Within, those}
 use Rattle.parity_laws.proofs.Labels.{rings_same}

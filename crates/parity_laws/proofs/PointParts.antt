@@ -3,8 +3,8 @@ use Rattle.std.proofs.Common.{◌≡◌, ◌≢◌, refl, sym, ◌∙◌, ap, su
 use lib.Dec.{eqb}
 use Rattle.std.proofs.lemmas.Bool.{both_ways, eqb-true, eqb-false, eq-eqb, ne_eqb}
 use Rattle.topo_base.specs.Point.{Point}
-use Rattle.topo_model.specs.Segment.{Segment}
-use Rattle.topo_model.specs.Faces.{xor}
+use Rattle.plane.specs.Segment.{Segment}
+use Rattle.plane.specs.Parity.{xor}
 use Rattle.parity_laws.specs.Steps.{Even, above, left}
 use Rattle.parity_laws.specs.Rings.{In, Within, those, Drawn, Ringwise, Sided, of_face}
 use Rattle.parity_laws.proofs.Star.{those_within}

@@ -1,11 +1,11 @@
 -- Each point, whole or not, has above it what some step has on its left.
 use Rattle.std.proofs.Common.{◌≡◌, ◌≢◌, sym, ◌∙◌, arith, ℕ, ◌<ℤ◌, ◌≤ℤ◌, ◌⊎◌, inl, inr, ⊎_elim, false, List, eqb}
 use Rattle.std.proofs.lemmas.Bool.{ne_eqb}
-use Rattle.topo_model.proofs.Ring.{signed}
-use Rattle.topo_model.proofs.Signs.{order}
+use Rattle.plane.proofs.Ring.{signed}
+use Rattle.plane.proofs.Signs.{order}
 use Rattle.topo_base.specs.Point.{Point}
-use Rattle.topo_model.specs.Segment.{Segment}
-use Rattle.topo_model.proofs.Crossings.{over, back}
+use Rattle.plane.specs.Segment.{Segment}
+use Rattle.plane.specs.Crossings.{over, back}
 use Rattle.parity_laws.specs.Steps.{Even, above, left}
 use Rattle.parity_laws.specs.Rings.{In, Within, those, Drawn, Sided, of_face}
 use Rattle.parity_laws.proofs.Viewing.{Lowest, lowest, down, vertex_above, wedge_at}

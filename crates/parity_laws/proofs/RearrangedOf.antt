@@ -1,6 +1,6 @@
 -- Two lists of the same steps, each step once, are one list in another order.
 use Rattle.std.proofs.Common.{◌≡◌, refl, sym, ◌∙◌, ap, subst, arith, ⊎_elim, inl, inr, ◌≤◌, Bool, List, [], ◌∷◌, length}
-use Rattle.topo_model.specs.Segment.{Segment}
+use Rattle.plane.specs.Segment.{Segment}
 use Rattle.parity_laws.specs.Steps.{odd}
 use Rattle.parity_laws.specs.Rings.{In, Within, Once, those}
 use Rattle.parity_laws.proofs.Star.{those_in, in_those}

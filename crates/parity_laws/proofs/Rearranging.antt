@@ -1,9 +1,9 @@
 -- Two lists of the same steps in another order have the same parities, rings and shells.
 use Rattle.std.proofs.Common.{◌≡◌, ℕ, sym, ◌∙◌, Bool, List}
 use Rattle.topo_base.specs.Point.{Point}
-use Rattle.topo_model.specs.Segment.{Segment}
-use Rattle.topo_model.specs.Direction.{Direction}
-use Rattle.topo_model.proofs.Crossings.{crosses}
+use Rattle.plane.specs.Segment.{Segment}
+use Rattle.plane.specs.Direction.{Direction}
+use Rattle.plane.specs.Crossings.{crosses}
 use Rattle.parity_laws.specs.Steps.{odd, above, turned, left, direction, leaves_before}
 use Rattle.parity_laws.specs.Ways.{Outside}
 use Rattle.parity_laws.specs.Rings.{Next, Within, those, Ringwise, OneRing, Sided}

@@ -1,6 +1,6 @@
 -- Each step is on a ring.
 use Rattle.std.specs.Prelude.{List}
-use Rattle.topo_model.specs.Segment.{Segment}
+use Rattle.plane.specs.Segment.{Segment}
 use Rattle.parity_laws.specs.Rings.{Drawn}
 use Rattle.parity_laws.proofs.Orbits.{ring_label}
 use Rattle.parity_laws.specs.Shelling.{HasRings}

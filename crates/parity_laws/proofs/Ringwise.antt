@@ -1,8 +1,8 @@
 -- Left of a ring the parity of an even list of steps is one constant.
 use Rattle.std.proofs.Common.{◌≡◌, refl, sym, ◌∙◌, subst, inl, inr, ⊎_elim, List, [], ◌∷◌}
-use Rattle.topo_model.specs.Segment.{Segment}
-use Rattle.topo_model.specs.Faces.{xor}
-use Rattle.topo_model.proofs.Crossings.{back}
+use Rattle.plane.specs.Segment.{Segment}
+use Rattle.plane.specs.Parity.{xor}
+use Rattle.plane.specs.Crossings.{back}
 use Rattle.parity_laws.specs.Steps.{Each, Even, direction, left, times}
 use Rattle.parity_laws.specs.Ways.{Tied, Outside}
 use Rattle.parity_laws.specs.Walks.{Chained}

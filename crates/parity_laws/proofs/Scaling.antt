@@ -3,15 +3,15 @@ use Rattle.std.proofs.Common.{◌≡◌, refl, sym, ◌∙◌, ap, arith, ℤ, p
 use Rattle.std.specs.Prelude.{int_lt}
 use Rattle.std.proofs.lemmas.Int.{ints}
 use Rattle.std.proofs.Math.IntN.{*ℤ-zero}
-use Rattle.topo_model.proofs.Ring.{multiplied, signed, mul_comm}
-use Rattle.topo_model.proofs.Signs.{mul_positive, mul_le, cancel}
-use Rattle.topo_model.proofs.Probe.{test_same}
+use Rattle.plane.proofs.Ring.{multiplied, signed, mul_comm}
+use Rattle.plane.proofs.Signs.{mul_positive, mul_le, cancel}
+use Rattle.plane.proofs.Probe.{test_same}
 use Rattle.topo_base.specs.Point.{Point, same_point}
-use Rattle.topo_model.specs.Segment.{Segment}
-use Rattle.topo_model.specs.Orientation.{area}
-use Rattle.topo_model.proofs.Crossings.{over, back, crosses, larger, larger_segment}
-use Rattle.topo_model.specs.Faces.{xor}
-use Rattle.topo_model.specs.Direction.{Direction}
+use Rattle.plane.specs.Segment.{Segment}
+use Rattle.plane.specs.Orientation.{area}
+use Rattle.plane.specs.Crossings.{over, back, crosses, larger, larger_segment}
+use Rattle.plane.specs.Parity.{xor}
+use Rattle.plane.specs.Direction.{Direction}
 use Rattle.parity_laws.specs.Steps.{odd, Even, direction, leaves_before, above, turned, left}
 use Rattle.parity_laws.proofs.Cutting.{Along, before_along, turned_along}
 

@@ -2,14 +2,14 @@
 use Rattle.std.proofs.Common.{◌≡◌, sym, ◌∙◌, ap, subst, arith, ℤ, pos, ◌-ℤ◌, ◌*ℤ◌, ◌<ℤ◌, ◌≤ℤ◌, ◌⊎◌, inl, inr, ⊎_elim, Bool, false, not, ◌&&◌, List, map}
 use Rattle.std.specs.Prelude.{int_lt}
 use Rattle.std.proofs.lemmas.Bool.{both_ways}
-use Rattle.topo_model.proofs.Ring.{signed}
-use Rattle.topo_model.proofs.Signs.{order, mul_not_negative}
-use Rattle.topo_model.proofs.Collinear.{area_start}
+use Rattle.plane.proofs.Ring.{signed}
+use Rattle.plane.proofs.Signs.{order, mul_not_negative}
+use Rattle.plane.proofs.Collinear.{area_start}
 use Rattle.topo_base.specs.Point.{Point}
-use Rattle.topo_model.specs.Segment.{Segment}
-use Rattle.topo_model.specs.Orientation.{area}
-use Rattle.topo_model.proofs.Crossings.{over, back, crosses, larger_segment}
-use Rattle.topo_model.specs.Faces.{xor}
+use Rattle.plane.specs.Segment.{Segment}
+use Rattle.plane.specs.Orientation.{area}
+use Rattle.plane.specs.Crossings.{over, back, crosses, larger_segment}
+use Rattle.plane.specs.Parity.{xor}
 use Rattle.parity_laws.specs.Steps.{Even, above, times, left}
 use Rattle.parity_laws.specs.Rings.{In, Plain, Within, those, View, Drawn, Ringwise, Sided}
 use Rattle.parity_laws.proofs.Sums.{odd_none, summing}

@@ -1,10 +1,10 @@
 -- Whether a ring is a shell, and which faces have one.
 use Rattle.std.proofs.Common.{◌≡◌, refl, ◌∙◌, ap, Bool, true, false, not, ◌&&◌, List}
-use Rattle.topo_model.specs.Segment.{Segment}
-use Rattle.topo_model.specs.Faces.{xor}
-use Rattle.topo_model.proofs.Crossings.{back}
+use Rattle.plane.specs.Segment.{Segment}
+use Rattle.plane.specs.Parity.{xor}
+use Rattle.plane.specs.Crossings.{back}
 use Rattle.topo_base.specs.Point.{same_point, Point}
-use Rattle.topo_model.specs.Direction.{Direction}
+use Rattle.plane.specs.Direction.{Direction}
 use Rattle.parity_laws.specs.Steps.{Each, direction, before, leaves_before, above, turned, times, left}
 use Rattle.parity_laws.specs.Walks.{NoHigher}
 use Rattle.parity_laws.specs.Rings.{In, Next, Plain, Within, those, has, Once, Labelled, First}

@@ -1,9 +1,9 @@
 -- A face divided by a ring, and two faces joined.
 use Rattle.std.proofs.Common.{◌≡◌, refl, sym, ◌∙◌, ap, subst, ◌≤ℤ◌, ⊎_elim, Bool, true, false, not, cond, ◌&&◌, List, [], ◌∷◌}
 use Rattle.std.proofs.lemmas.Bool.{both_ways}
-use Rattle.topo_model.specs.Segment.{Segment}
-use Rattle.topo_model.specs.Faces.{xor}
-use Rattle.topo_model.proofs.Crossings.{over, back, crosses}
+use Rattle.plane.specs.Segment.{Segment}
+use Rattle.plane.specs.Parity.{xor}
+use Rattle.plane.specs.Crossings.{over, back, crosses}
 use Rattle.parity_laws.specs.Steps.{odd, Each, direction, leaves_before, above, turned, times, left}
 use Rattle.parity_laws.specs.Walks.{NoHigher}
 use Rattle.parity_laws.specs.Rings.{In, Next, those, has, First, View, Drawn, Ringwise, Sided}

@@ -2,12 +2,12 @@
 use Rattle.std.proofs.Common.{◌≡◌, refl, sym, ◌∙◌, ap, subst, ◌⊎◌, inl, inr, ⊎_elim, Bool, true, false, cond, ◌&&◌, List, [], ◌∷◌}
 use Rattle.std.specs.Prelude.{◌||◌}
 use Rattle.std.proofs.lemmas.Bool.{both_ways, and_parts, and_from}
-use Rattle.topo_model.specs.Segment.{Segment}
-use Rattle.topo_model.specs.Relation.{AreApart}
-use Rattle.topo_model.specs.Faces.{xor}
-use Rattle.topo_model.proofs.Crossings.{back}
+use Rattle.plane.specs.Segment.{Segment}
+use Rattle.plane.specs.Relation.{AreApart}
+use Rattle.plane.specs.Parity.{xor}
+use Rattle.plane.specs.Crossings.{back}
 use Rattle.topo_base.specs.Point.{same_point, Point}
-use Rattle.topo_model.specs.Direction.{Direction}
+use Rattle.plane.specs.Direction.{Direction}
 use Rattle.parity_laws.specs.Steps.{direction, before, times, Each}
 use Rattle.parity_laws.specs.Ways.{Tied, Meets, Fork, Apart, Outside}
 use Rattle.parity_laws.specs.Rings.{In, Next, Plain, Within, those, has, Once, First}

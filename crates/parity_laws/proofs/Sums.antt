@@ -1,6 +1,6 @@
 -- Sums modulo 2 over lists.
 use Rattle.std.proofs.Common.{◌≡◌, refl, sym, ◌∙◌, ap, Bool, true, false, List, [], ◌∷◌, ◌++◌}
-use Rattle.topo_model.specs.Faces.{xor}
+use Rattle.plane.specs.Parity.{xor}
 use Rattle.parity_laws.specs.Steps.{odd, Each}
 
 pub xor_comm : (a b : Bool) → xor a b ≡ xor b a

@@ -3,13 +3,13 @@ use Rattle.std.proofs.Common.{◌≡◌, ◌≢◌, refl, sym, ◌∙◌, arith,
 use Rattle.std.specs.Prelude.{neg_ℤ, int_lt}
 use Rattle.std.proofs.lemmas.Int.{ints}
 use Rattle.std.proofs.lemmas.Bool.{both_ways, and_parts}
-use Rattle.topo_model.proofs.PointTests.{Decides-same_point}
-use Rattle.topo_model.proofs.Ring.{multiplied, signed}
-use Rattle.topo_model.proofs.Signs.{order}
+use Rattle.plane.proofs.PointTests.{Decides-same_point}
+use Rattle.plane.proofs.Ring.{multiplied, signed}
+use Rattle.plane.proofs.Signs.{order}
 use Rattle.topo_base.specs.Point.{Point, same_point}
-use Rattle.topo_model.specs.Orientation.{area}
-use Rattle.topo_model.specs.Direction.{Direction, cross}
-use Rattle.topo_model.specs.Segment.{Segment}
+use Rattle.plane.specs.Orientation.{area}
+use Rattle.plane.specs.Direction.{Direction, cross}
+use Rattle.plane.specs.Segment.{Segment}
 use Rattle.parity_laws.specs.Steps.{rightward, first_of, before}
 use Rattle.parity_laws.specs.Ways.{Apart}
 

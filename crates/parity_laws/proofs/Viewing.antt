@@ -4,19 +4,19 @@ use Rattle.std.specs.Prelude.{neg_ℤ, int_lt}
 use Rattle.std.proofs.lemmas.Bool.{both_ways, and_parts, and_from, and_left}
 use Rattle.std.proofs.Math.IntN.{*ℤ-zero}
 use Rattle.std.proofs.lemmas.Int.{ints}
-use Rattle.topo_model.proofs.Ring.{multiplied, signed}
-use Rattle.topo_model.proofs.Signs.{order, mul_positive}
-use Rattle.topo_model.proofs.Probe.{factor_positive, factor_not_positive}
-use Rattle.topo_model.proofs.LineLemmas.{end_on as on_between}
-use Rattle.topo_model.proofs.Collinear.{area_start}
+use Rattle.plane.proofs.Ring.{multiplied, signed}
+use Rattle.plane.proofs.Signs.{order, mul_positive}
+use Rattle.plane.proofs.Probe.{factor_positive, factor_not_positive}
+use Rattle.plane.proofs.LineLemmas.{end_on as on_between}
+use Rattle.plane.proofs.Collinear.{area_start}
 use Rattle.topo_base.specs.Point.{Point, same_point}
-use Rattle.topo_model.specs.Segment.{Segment}
-use Rattle.topo_model.specs.Relation.{AreApart}
-use Rattle.topo_model.specs.Orientation.{area}
+use Rattle.plane.specs.Segment.{Segment}
+use Rattle.plane.specs.Relation.{AreApart}
+use Rattle.plane.specs.Orientation.{area}
 use Rattle.topo_base.specs.RationalPoint.{rational}
-use Rattle.topo_model.proofs.Crossings.{over, back, crosses}
-use Rattle.topo_model.specs.Faces.{xor}
-use Rattle.topo_model.specs.Direction.{Direction, cross}
+use Rattle.plane.specs.Crossings.{over, back, crosses}
+use Rattle.plane.specs.Parity.{xor}
+use Rattle.plane.specs.Direction.{Direction, cross}
 use Rattle.parity_laws.specs.Steps.{Even, direction, rightward, first_of, before, leaves_before, above, turned, left}
 use Rattle.parity_laws.specs.Ways.{Tied, Meets, Fork, Apart, Outside}
 use Rattle.parity_laws.specs.Rings.{In, Plain, Within, Drawn}

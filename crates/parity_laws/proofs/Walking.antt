@@ -1,15 +1,15 @@
 -- Even lists of steps, and what they keep along a way that meets none of them, or begins at a vertex of theirs.
 use Rattle.std.proofs.Common.{◌≡◌, ◌≢◌, refl, sym, ◌∙◌, ap, arith, ℤ, pos, ◌-ℤ◌, ◌*ℤ◌, ◌+ℤ◌, ◌<ℤ◌, ◌≤ℤ◌, ⊎_elim, Bool, true, false, not, ◌&&◌, List, [], ◌∷◌, ◌++◌}
 use Rattle.std.specs.Prelude.{int_lt}
-use Rattle.topo_model.proofs.Ring.{multiplied, signed}
-use Rattle.topo_model.proofs.Signs.{order, mul_not_negative}
-use Rattle.topo_model.specs.Direction.{Direction}
+use Rattle.plane.proofs.Ring.{multiplied, signed}
+use Rattle.plane.proofs.Signs.{order, mul_not_negative}
+use Rattle.plane.specs.Direction.{Direction}
 use Rattle.topo_base.specs.Point.{Point, same_point}
-use Rattle.topo_model.specs.Segment.{Segment}
-use Rattle.topo_model.specs.Relation.{AreApart}
-use Rattle.topo_model.specs.Orientation.{area}
-use Rattle.topo_model.proofs.Crossings.{over, back, crosses, passed, last_of}
-use Rattle.topo_model.specs.Faces.{xor}
+use Rattle.plane.specs.Segment.{Segment}
+use Rattle.plane.specs.Relation.{AreApart}
+use Rattle.plane.specs.Orientation.{area}
+use Rattle.plane.specs.Crossings.{over, back, crosses, passed, last_of}
+use Rattle.plane.specs.Parity.{xor}
 use Rattle.parity_laws.specs.Steps.{direction, leaves_before, twin, odd, Each, Even, above, turned, times, left}
 use Rattle.parity_laws.specs.Ways.{Tied, Outside}
 use Rattle.parity_laws.specs.Walks.{steps, Line, all_steps, EndsPair, Chained, NoHigher, NotAt}

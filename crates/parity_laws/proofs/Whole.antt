@@ -1,15 +1,15 @@
 -- A list cut at a point inside one of its steps: which step of the list each step of the cut list is a part of.
 use Rattle.std.proofs.Common.{◌≡◌, ◌≢◌, refl, sym, ◌∙◌, ap, subst, ◌⊎◌, inl, inr, ⊎_elim, Bool, true, false, cond, ◌&&◌, List, [], ◌∷◌, ◌++◌}
 use Rattle.std.specs.Prelude.{◌||◌}
-use Rattle.topo_model.proofs.Signs.{times_one}
-use Rattle.topo_model.proofs.Points.{point_on}
-use Rattle.topo_model.proofs.Collinear.{on_round}
+use Rattle.plane.proofs.Signs.{times_one}
+use Rattle.plane.proofs.Points.{point_on}
+use Rattle.plane.proofs.Collinear.{on_round}
 use Rattle.topo_base.specs.Point.{Point, same_point}
 use Rattle.topo_base.specs.RationalPoint.{rational, SamePoint}
-use Rattle.topo_model.specs.Segment.{Segment}
-use Rattle.topo_model.specs.RationalTests.{IsOn}
-use Rattle.topo_model.specs.Relation.{AreApart}
-use Rattle.topo_model.proofs.Crossings.{back}
+use Rattle.plane.specs.Segment.{Segment}
+use Rattle.plane.specs.RationalTests.{IsOn}
+use Rattle.plane.specs.Relation.{AreApart}
+use Rattle.plane.specs.Crossings.{back}
 use Rattle.parity_laws.specs.Steps.{Each}
 use Rattle.parity_laws.specs.Ways.{Tied, Meets, Fork}
 use Rattle.parity_laws.specs.Walks.{NotAt}

@@ -1,7 +1,7 @@
 -- A line that comes to a drawing's steps.
 use Rattle.std.specs.Prelude.{◌≡◌, ℕ, List, [], ◌∷◌, ◌++◌, ◌⊎◌}
-use Rattle.topo_model.specs.Segment.{Segment}
-use Rattle.topo_model.proofs.Crossings.{back}
+use Rattle.plane.specs.Segment.{Segment}
+use Rattle.plane.specs.Crossings.{back}
 use Rattle.parity_laws.specs.Rings.{In, Next, Drawn, Ringwise, of_face}
 
 -- the steps walked back, from the last to the first

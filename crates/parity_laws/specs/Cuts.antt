@@ -1,10 +1,10 @@
 -- A step cut in two at a point of it.
 use Rattle.std.specs.Prelude.{◌≡◌, ◌≢◌, pos, cond, ◌&&◌, List, [], ◌∷◌, ◌++◌}
 use Rattle.topo_base.specs.Point.{Point, same_point}
-use Rattle.topo_model.specs.Segment.{Segment}
+use Rattle.plane.specs.Segment.{Segment}
 use Rattle.topo_base.specs.RationalPoint.{IsBetween}
-use Rattle.topo_model.specs.Orientation.{area}
-use Rattle.topo_model.proofs.Crossings.{back}
+use Rattle.plane.specs.Orientation.{area}
+use Rattle.plane.specs.Crossings.{back}
 
 -- m is on s, and no end of it
 pub record Inner (m : Point) (s : Segment) : Type 0 where

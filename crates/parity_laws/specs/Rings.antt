@@ -2,12 +2,12 @@
 use Rattle.std.specs.Prelude.{◌≡◌, ◌≢◌, ℕ, pos, ◌*ℤ◌, ◌<ℤ◌, Bool, true, false, cond, ◌&&◌, List, [], ◌∷◌, ◌⊎◌}
 use lib.Dec.{eqb}
 use Rattle.topo_base.specs.Point.{Point, same_point}
-use Rattle.topo_model.specs.Segment.{Segment}
+use Rattle.plane.specs.Segment.{Segment}
 use Rattle.topo_base.specs.RationalPoint.{RationalPoint, SamePoint, rational}
-use Rattle.topo_model.specs.RationalTests.{IsOn, IsLeftOf}
-use Rattle.topo_model.specs.Relation.{AreApart}
-use Rattle.topo_model.specs.Orientation.{area}
-use Rattle.topo_model.proofs.Crossings.{back, larger_spot, way}
+use Rattle.plane.specs.RationalTests.{IsOn, IsLeftOf}
+use Rattle.plane.specs.Relation.{AreApart}
+use Rattle.plane.specs.Orientation.{area}
+use Rattle.plane.specs.Crossings.{back, larger_spot, way}
 use Rattle.parity_laws.specs.Steps.{Each, Even, direction, before, odd, above, left}
 use Rattle.parity_laws.specs.Ways.{Tied, Outside}
 use Rattle.parity_laws.specs.Walks.{NotAt}

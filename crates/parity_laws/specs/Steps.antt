@@ -2,11 +2,11 @@
 -- A step is a segment walked from a to b.
 use Rattle.std.specs.Prelude.{◌≡◌, pos, Bool, true, false, not, ◌&&◌, ◌||◌, List, [], ◌∷◌, int_lt}
 use Rattle.topo_base.specs.Point.{Point, same_point}
-use Rattle.topo_model.specs.Direction.{Direction, direction_to, cross}
-use Rattle.topo_model.specs.Segment.{Segment}
+use Rattle.plane.specs.Direction.{Direction, direction_to, cross}
+use Rattle.plane.specs.Segment.{Segment}
 use Rattle.topo_base.specs.RationalPoint.{RationalPoint}
-use Rattle.topo_model.specs.Faces.{xor}
-use Rattle.topo_model.proofs.Crossings.{back, crosses, crosses_at}
+use Rattle.plane.specs.Parity.{xor}
+use Rattle.plane.specs.Crossings.{back, crosses, crosses_at}
 
 -- whether an odd number of the list passes the test
 abbrev pub odd : {A : Type 0} → (A → Bool) → List A → Bool

@@ -1,9 +1,9 @@
 -- Walks from point to point, rings and polylines.
 use Rattle.std.specs.Prelude.{◌≡◌, ◌≢◌, ◌≤ℤ◌, Bool, false, List, [], ◌∷◌, ◌++◌}
 use Rattle.topo_base.specs.Point.{Point}
-use Rattle.topo_model.specs.Segment.{Segment}
-use Rattle.topo_model.specs.Faces.{xor}
-use Rattle.topo_model.proofs.Crossings.{last_of}
+use Rattle.plane.specs.Segment.{Segment}
+use Rattle.plane.specs.Parity.{xor}
+use Rattle.plane.specs.Crossings.{last_of}
 use Rattle.parity_laws.specs.Steps.{odd}
 
 -- the steps from v through ws

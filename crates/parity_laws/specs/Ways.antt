@@ -1,10 +1,10 @@
 -- How two steps of a plain drawing lie.
 use Rattle.std.specs.Prelude.{◌≡◌, ◌≢◌, ◌<ℤ◌, ◌≤ℤ◌, Bool, true, false, cond, ◌&&◌, ◌||◌, ◌⊎◌}
 use Rattle.topo_base.specs.Point.{Point}
-use Rattle.topo_model.specs.Segment.{Segment}
-use Rattle.topo_model.specs.Relation.{AreApart}
-use Rattle.topo_model.proofs.Crossings.{back}
-use Rattle.topo_model.specs.Direction.{Direction}
+use Rattle.plane.specs.Segment.{Segment}
+use Rattle.plane.specs.Relation.{AreApart}
+use Rattle.plane.specs.Crossings.{back}
+use Rattle.plane.specs.Direction.{Direction}
 use Rattle.parity_laws.specs.Steps.{direction, before}
 
 -- to the right, or straight down

@@ -3,12 +3,12 @@
 ghost use Rattle.std.specs.Prelude.{◌≡◌, ◌≢◌, ℕ, ◌*ℤ◌, Bool, true, false, not, ◌&&◌, List, ◌∷◌};
 ghost use lib.Dec.{eqb};
 ghost use Rattle.topo_base.specs.Point.{Point};
-ghost use Rattle.topo_model.specs.Segment.{Segment};
+ghost use Rattle.plane.specs.Segment.{Segment};
 ghost use Rattle.topo_base.specs.RationalPoint.{RationalPoint};
-ghost use Rattle.topo_model.specs.RationalTests.{IsOn};
-ghost use Rattle.topo_model.specs.Relation.{AreApart};
-ghost use Rattle.topo_model.specs.Faces.{xor};
-ghost use Rattle.topo_model.proofs.Crossings.{back, way, larger_spot};
+ghost use Rattle.plane.specs.RationalTests.{IsOn};
+ghost use Rattle.plane.specs.Relation.{AreApart};
+ghost use Rattle.plane.specs.Parity.{xor};
+ghost use Rattle.plane.specs.Crossings.{back, way, larger_spot};
 ghost use Rattle.parity_laws.specs.Steps.{Each, Even, above, above_at, times, left};
 ghost use Rattle.parity_laws.specs.Walks.{Line, all_steps, EndsPair, NoHigher};
 ghost use Rattle.parity_laws.specs.Rings.{In, Next, IsRing, Plain, Once, Within, First, View, those, Drawn, Ringwise, Sided, of_face, OneRing, SeesLeftAt};

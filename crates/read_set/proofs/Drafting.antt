@@ -7,13 +7,13 @@ use Rattle.topo_base.specs.declared.write.RowId.TheVariants.{Old, Fresh}
 use Rattle.topo_base.specs.declared.write.RowDart.{RowDart}
 use Rattle.topo_base.specs.declared.write.RowWrite.{RowWrite}
 use Rattle.topo_base.specs.declared.write.RowWrite.TheVariants.{AddNode, SetContaining, SetPoint, DropNode, AddEdge, SetNext, SetSide, SetLine, DropEdge, AddFace, SetBox, DropFace, AddLayer, AddFeature, DropFeature, AddRow, DropRow, Raise}
-use Rattle.topo_model.specs.Drawing.{Drawing, node_id_of, feature_id_of}
-use Rattle.topo_model.specs.Relations.{insert_row, same_row}
-use Rattle.topo_model.specs.Rows.{with_change, without_row}
-use Rattle.topo_model.specs.Tables.{Tables, tables_of}
-use Rattle.topo_model.specs.Writable.{CanWrite, CanWriteAll, IsThere, IsThereIfAny, IsOld, IsOldIfAny, IsNext}
-use Rattle.topo_model.specs.Writes.{written, all_written, id_number, dart_named, element_number, row_named, with_node_row, with_next, with_side, edge_row_id, face_row_id}
-use Rattle.topo_model.proofs.WritesInOrder.{can_write-append, written-append}
+use Rattle.drawing.specs.Drawing.{Drawing, node_id_of, feature_id_of}
+use Rattle.drawing.specs.Relations.{insert_row, same_row}
+use Rattle.drawing.specs.Rows.{with_change, without_row}
+use Rattle.drawing.specs.Tables.{Tables, tables_of}
+use Rattle.drawing.specs.Writable.{CanWrite, CanWriteAll, IsThere, IsThereIfAny, IsOld, IsOldIfAny, IsNext}
+use Rattle.drawing.specs.Writes.{written, all_written, id_number, dart_named, element_number, row_named, with_node_row, with_next, with_side, edge_row_id, face_row_id}
+use Rattle.drawing.proofs.WritesInOrder.{can_write-append, written-append}
 use Rattle.read_set.specs.Drafted.{Drafted, IsDraftOf}
 
 -- ids are old, so it is no matter which ids were next before the edit

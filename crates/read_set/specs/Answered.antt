@@ -1,8 +1,8 @@
 -- What a planner answers.
 use Rattle.std.specs.Prelude.{◌≡◌, ℕ, Result, Ok, Err, IsOk}
 use Rattle.topo_base.specs.declared.edit.Edit.{Edit}
-use Rattle.topo_model.specs.Step.{step}
-use Rattle.topo_model.specs.Tables.{drawn}
+use Rattle.drawing.specs.Step.{step}
+use Rattle.drawing.specs.Tables.{drawn}
 use Rattle.topo_tables.specs.Taken.{Taken}
 use Rattle.read_set.specs.Planned.{Planned, IsPromised}
 use Rattle.read_set.specs.declared.end.PlanEnd.{PlanEnd}

@@ -1,8 +1,8 @@
 -- What is answered where a draft is to be made of an edit.
 use Rattle.std.specs.Prelude.{◌≡◌, ℕ, Result, Ok, Err, IsOk}
-use Rattle.topo_model.specs.Drawing.{Drawing}
-use Rattle.topo_model.specs.Outcome.{Accepted, Outcome}
-use Rattle.topo_model.specs.Tables.{tables_of}
+use Rattle.drawing.specs.Drawing.{Drawing}
+use Rattle.drawing.specs.Outcome.{Accepted, Outcome}
+use Rattle.drawing.specs.Tables.{tables_of}
 use Rattle.read_set.specs.Drafted.{IsDraftOf}
 use Rattle.read_set.specs.declared.end.PlanEnd.{PlanEnd}
 use Rattle.read_set.specs.declared.end.PlanEnd.TheVariants.{Refused, Memory}

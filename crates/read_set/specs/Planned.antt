@@ -4,7 +4,7 @@ use Rattle.topo_base.specs.declared.edit.Edit.{Edit}
 use Rattle.topo_base.specs.declared.element.Element.{Element}
 use Rattle.topo_base.specs.declared.write.RowWrite.{RowWrite}
 use Rattle.read_set.specs.Plans.{IsPlanFor}
-use Rattle.topo_model.specs.Tables.{drawn}
+use Rattle.drawing.specs.Tables.{drawn}
 use Rattle.topo_tables.specs.Taken.{Taken}
 
 -- whose edit it is, the edit, the excerpt on which it was planned, the row writes in order, and what the reply names

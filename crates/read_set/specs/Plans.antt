@@ -3,12 +3,12 @@ use Rattle.std.specs.Prelude.{◌≡◌, List, Ok}
 use Rattle.topo_base.specs.declared.edit.Edit.{Edit}
 use Rattle.topo_base.specs.declared.element.Element.{Element}
 use Rattle.topo_base.specs.declared.write.RowWrite.{RowWrite}
-use Rattle.topo_model.specs.Drawing.{Drawing}
-use Rattle.topo_model.specs.Outcome.{Accepted}
-use Rattle.topo_model.specs.Step.{step}
-use Rattle.topo_model.specs.Tables.{tables_of}
-use Rattle.topo_model.specs.Writes.{all_written}
-use Rattle.topo_model.specs.Writable.{CanWriteAll}
+use Rattle.drawing.specs.Drawing.{Drawing}
+use Rattle.drawing.specs.Outcome.{Accepted}
+use Rattle.drawing.specs.Step.{step}
+use Rattle.drawing.specs.Tables.{tables_of}
+use Rattle.drawing.specs.Writes.{all_written}
+use Rattle.drawing.specs.Writable.{CanWriteAll}
 
 -- the edit is accepted with these ids; on the drawing's tables the writes may be made in order, and they leave those of the drawing after
 pub record IsPlanFor (S : Drawing) (e : Edit) (ws : List RowWrite) (ids : List Element) : Type 0 where

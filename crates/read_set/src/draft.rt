@@ -1,10 +1,10 @@
 ghost use Rattle.std.specs.Prelude.{◌≡◌, [], ◌∷◌, ◌++◌, IfOk, OnOk, IsTrue};
 ghost use Rattle.std.specs.List.{list_all};
-ghost use Rattle.topo_model.specs.Writable.{CanWrite, CanWriteAll};
-ghost use Rattle.topo_model.specs.Writes.{all_written, written};
+ghost use Rattle.drawing.specs.Writable.{CanWrite, CanWriteAll};
+ghost use Rattle.drawing.specs.Writes.{all_written, written};
 ghost use Rattle.read_set.specs.Drafted.{IsDraftOf};
-ghost use Rattle.topo_model.specs.Drawing.{Drawing};
-ghost use Rattle.topo_model.specs.Tables.{tables_of};
+ghost use Rattle.drawing.specs.Drawing.{Drawing};
+ghost use Rattle.drawing.specs.Tables.{tables_of};
 
 use crate::copies::copy_of;
 use std::alloc::Global;

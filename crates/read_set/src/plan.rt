@@ -1,7 +1,7 @@
 ghost use Rattle.std.specs.Prelude.{◌≡◌, length};
 ghost use Rattle.read_set.specs.Planned.{IsEditor, IsPromised};
 ghost use Rattle.read_set.specs.Plans.{IsPlanFor};
-ghost use Rattle.topo_model.specs.Tables.{drawn};
+ghost use Rattle.drawing.specs.Tables.{drawn};
 
 use std::marker::Model;
 use topo_base::{Edit, Ids};

@@ -10,20 +10,20 @@ use Rattle.topo_base.specs.declared.kind.Kind.{Kind}
 use Rattle.topo_base.specs.declared.kind.Kind.TheVariants.{Puntal, Lineal, Areal}
 use Rattle.topo_base.specs.declared.rows.NodeRow.{NodeRow}
 use Rattle.topo_base.specs.declared.rows.RelationRow.{RelationRow}
-use Rattle.topo_model.specs.AddEdge.{Division, coming, divided, divided_edge, divided_node, face_at_start, keeps_left, one_new, two_new}
-use Rattle.topo_model.specs.Edits.{add_edge, with_parts, add_iso_edge, add_iso_node, move_iso_node, remove_iso_edge, remove_iso_node}
-use Rattle.topo_model.specs.Drawing.{Drawing, Edge, edge_id_of, has_edge, has_face, has_node, node_id_of}
-use Rattle.topo_model.specs.Faces.{face_at}
-use Rattle.topo_model.specs.HalfEdge.{HalfEdge, backward_of, forward_of, half_edges}
-use Rattle.topo_model.specs.IsoEdits.{is_in_feature, put_at, put_in_face, with_edge, with_node}
-use Rattle.topo_model.specs.Outcome.{the_edge, the_face}
-use Rattle.topo_model.specs.Relations.{edge_type, face_type, is_among, lists_element, node_type}
-use Rattle.topo_model.specs.Ring.{contains_half_edge, ring_of}
-use Rattle.topo_model.specs.Rows.{without_row}
-use Rattle.topo_model.specs.Subdivision.{face_id_of}
-use Rattle.topo_model.proofs.ListTests.{contains_cases, contains_none}
-use Rattle.topo_model.proofs.Keeping.{Keeps, accepted, either, refused, refuses_else, refuses_or}
-use Rattle.topo_model.proofs.Ordering.{InOrder}
+use Rattle.drawing.specs.AddEdge.{Division, coming, divided, divided_edge, divided_node, face_at_start, keeps_left, one_new, two_new}
+use Rattle.drawing.specs.Edits.{add_edge, with_parts, add_iso_edge, add_iso_node, move_iso_node, remove_iso_edge, remove_iso_node}
+use Rattle.drawing.specs.Drawing.{Drawing, Edge, edge_id_of, has_edge, has_face, has_node, node_id_of}
+use Rattle.drawing.specs.Faces.{face_at}
+use Rattle.drawing.specs.HalfEdge.{HalfEdge, backward_of, forward_of, half_edges}
+use Rattle.drawing.specs.IsoEdits.{is_in_feature, put_at, put_in_face, with_edge, with_node}
+use Rattle.drawing.specs.Outcome.{the_edge, the_face}
+use Rattle.drawing.specs.Relations.{edge_type, face_type, is_among, lists_element, node_type}
+use Rattle.drawing.specs.Ring.{contains_half_edge, ring_of}
+use Rattle.drawing.specs.Rows.{without_row}
+use Rattle.drawing.specs.Subdivision.{face_id_of}
+use Rattle.plane.proofs.ListTests.{contains_cases, contains_none}
+use Rattle.drawing.proofs.Keeping.{Keeps, accepted, either, refused, refuses_else, refuses_or}
+use Rattle.drawing.proofs.Ordering.{InOrder}
 use Rattle.reference_laws.proofs.Elements.{areal_from, areal_kept, has_behind, has_changed, has_filtered, has_more, has_same, has_without, is_free, next_is_some, nodes_put, some_face}
 use Rattle.reference_laws.proofs.Followed.{rows_follow, rows_stay}
 use Rattle.reference_laws.proofs.KnownRows.{KnowsRows, has_of}

@@ -10,21 +10,21 @@ use Rattle.topo_base.specs.declared.kind.Kind.{Kind}
 use Rattle.topo_base.specs.declared.kind.Kind.TheVariants.{Puntal, Lineal, Areal}
 use Rattle.topo_base.specs.declared.rows.NodeRow.{NodeRow}
 use Rattle.topo_base.specs.declared.rows.RelationRow.{RelationRow}
-use Rattle.topo_model.specs.Drawing.{Drawing, Edge, edge_id_of, has_edge, has_face, is_end_of, is_isolated, node_id_of}
-use Rattle.topo_model.specs.HealEdges.{away_from, common_nodes, healed_node, is_nothing, joined_edge}
-use Rattle.topo_model.specs.Edits.{heal_at, heal_edges, merged, merged_into, remove_edge, split_edge}
-use Rattle.topo_model.specs.IsoEdits.{is_in_feature, with_node}
-use Rattle.topo_model.specs.Line.{joined}
-use Rattle.topo_model.specs.Outcome.{the_face}
-use Rattle.topo_model.specs.Apply.{Decision, carried_out}
-use Rattle.topo_model.specs.Relations.{edge_type, face_type, features_of, follow, is_among, lists_element, node_type}
-use Rattle.topo_model.specs.RemoveEdge.{have_same_features, renamed, renamed_edge, renamed_node, without_edge, without_faces}
-use Rattle.topo_model.specs.Rows.{without_row, with_change}
-use Rattle.topo_model.specs.SplitEdge.{first_part, second_part}
-use Rattle.topo_model.specs.Subdivision.{face_id_of}
-use Rattle.topo_model.proofs.Keeping.{Keeps, either, refused, refuses_else, refuses_or}
-use Rattle.topo_model.proofs.ListTests.{contains_cases, contains_none}
-use Rattle.topo_model.proofs.Ordering.{InOrder}
+use Rattle.drawing.specs.Drawing.{Drawing, Edge, edge_id_of, has_edge, has_face, is_end_of, is_isolated, node_id_of}
+use Rattle.drawing.specs.HealEdges.{away_from, common_nodes, healed_node, is_nothing, joined_edge}
+use Rattle.drawing.specs.Edits.{heal_at, heal_edges, merged, merged_into, remove_edge, split_edge}
+use Rattle.drawing.specs.IsoEdits.{is_in_feature, with_node}
+use Rattle.plane.specs.Line.{joined}
+use Rattle.drawing.specs.Outcome.{the_face}
+use Rattle.drawing.specs.Apply.{Decision, carried_out}
+use Rattle.drawing.specs.Relations.{edge_type, face_type, features_of, follow, is_among, lists_element, node_type}
+use Rattle.drawing.specs.RemoveEdge.{have_same_features, renamed, renamed_edge, renamed_node, without_edge, without_faces}
+use Rattle.drawing.specs.Rows.{without_row, with_change}
+use Rattle.drawing.specs.SplitEdge.{first_part, second_part}
+use Rattle.drawing.specs.Subdivision.{face_id_of}
+use Rattle.drawing.proofs.Keeping.{Keeps, either, refused, refuses_else, refuses_or}
+use Rattle.plane.proofs.ListTests.{contains_cases, contains_none}
+use Rattle.drawing.proofs.Ordering.{InOrder}
 use Rattle.reference_laws.proofs.DrawingEdits.{KeepsRows, keep, not_one, one_of_two, only_one}
 use Rattle.reference_laws.proofs.Elements.{areal_from, areal_kept, has_behind, has_changed, has_filtered, has_more, has_same, has_without, is_free, next_is_some, none_as_same, none_in, same_as_none, universe_unlisted}
 use Rattle.reference_laws.proofs.Followed.{each_row, rows_follow}

@@ -10,14 +10,14 @@ use Rattle.topo_base.specs.declared.kind.Kind.{Kind}
 use Rattle.topo_base.specs.declared.kind.Kind.TheVariants.{Puntal, Lineal, Areal}
 use Rattle.topo_base.specs.declared.rows.NodeRow.{NodeRow}
 use Rattle.topo_base.specs.declared.rows.RelationRow.{RelationRow}
-use Rattle.topo_model.specs.Drawing.{Drawing, has_face, node_id_of}
-use Rattle.topo_model.specs.IsoEdits.{is_in_feature, put_in_face}
-use Rattle.topo_model.specs.Relations.{face_type, features_of, is_hierarchical, lists_element}
-use Rattle.topo_model.specs.Rows.{has_row, with_change, without_row}
-use Rattle.topo_model.specs.Subdivision.{face_id_of}
-use Rattle.topo_model.proofs.ListTests.{contains_here, contains_none, contains_there}
-use Rattle.topo_model.proofs.Members.{contains-filter, ids_within}
-use Rattle.topo_model.proofs.Ordering.{InOrder}
+use Rattle.drawing.specs.Drawing.{Drawing, has_face, node_id_of}
+use Rattle.drawing.specs.IsoEdits.{is_in_feature, put_in_face}
+use Rattle.drawing.specs.Relations.{face_type, features_of, is_hierarchical, lists_element}
+use Rattle.drawing.specs.Rows.{has_row, with_change, without_row}
+use Rattle.drawing.specs.Subdivision.{face_id_of}
+use Rattle.plane.proofs.ListTests.{contains_here, contains_none, contains_there}
+use Rattle.drawing.proofs.Members.{contains-filter, ids_within}
+use Rattle.drawing.proofs.Ordering.{InOrder}
 use Rattle.ring_laws.proofs.Known.{any_in, any_out}
 use Rattle.reference_laws.proofs.KnownRows.{IsRow, has_listed, has_of, lists_primitive, number_in}
 

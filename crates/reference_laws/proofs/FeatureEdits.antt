@@ -12,18 +12,18 @@ use Rattle.topo_base.specs.declared.rows.LayerRow.{LayerRow}
 use Rattle.topo_base.specs.declared.rows.RelationRow.{RelationRow}
 use Rattle.topo_base.specs.declared.rule.Rule.{Rule}
 use Rattle.topo_base.specs.declared.rule.Rule.TheVariants.{ElementListed}
-use Rattle.topo_model.specs.Drawing.{Drawing, edge_id_of, feature_at, feature_id_of, node_id_of, layer_at, layer_id_of}
-use Rattle.topo_model.specs.Layers.{element_rule, elements_rule, is_feature_of, missing, or_else, row_for, same_pair}
-use Rattle.topo_model.specs.Edits.{create_topo_geom, drop_feature, with_feature}
-use Rattle.topo_model.specs.Outcome.{the_feature}
-use Rattle.topo_model.specs.Relations.{is_hierarchical, lists_feature, ordered, row_before}
-use Rattle.topo_model.specs.Rows.{has_row, row_at, without_row}
-use Rattle.topo_model.specs.Subdivision.{is_row_known, is_row_of}
-use Rattle.topo_model.proofs.Keeping.{Keeps, refused, refuses_else}
-use Rattle.topo_model.proofs.ListTests.{contains_cases, contains_here, contains_none, contains_there}
-use Rattle.topo_model.proofs.Members.{contains-filtered, contains-found, contains-mapped, ids_within}
-use Rattle.topo_model.proofs.Ordering.{InOrder}
-use Rattle.topo_model.proofs.RowLemmas.{row_at-without_other}
+use Rattle.drawing.specs.Drawing.{Drawing, edge_id_of, feature_at, feature_id_of, node_id_of, layer_at, layer_id_of}
+use Rattle.drawing.specs.Layers.{element_rule, elements_rule, is_feature_of, missing, or_else, row_for, same_pair}
+use Rattle.drawing.specs.Edits.{create_topo_geom, drop_feature, with_feature}
+use Rattle.drawing.specs.Outcome.{the_feature}
+use Rattle.drawing.specs.Relations.{is_hierarchical, lists_feature, ordered, row_before}
+use Rattle.drawing.specs.Rows.{has_row, row_at, without_row}
+use Rattle.drawing.specs.Subdivision.{is_row_known, is_row_of}
+use Rattle.drawing.proofs.Keeping.{Keeps, refused, refuses_else}
+use Rattle.plane.proofs.ListTests.{contains_cases, contains_here, contains_none, contains_there}
+use Rattle.drawing.proofs.Members.{contains-filtered, contains-found, contains-mapped, ids_within}
+use Rattle.drawing.proofs.Ordering.{InOrder}
+use Rattle.drawing.proofs.RowLemmas.{row_at-without_other}
 use Rattle.relation_rows.proofs.Putting.{AllAfter, Ascend, ascend_of}
 use Rattle.ring_laws.proofs.Known.{all_in, all_out, any_in}
 use Rattle.reference_laws.proofs.DrawingEdits.{KeepsRows, keep}

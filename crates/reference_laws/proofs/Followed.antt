@@ -8,11 +8,11 @@ use Rattle.topo_base.specs.declared.kind.Kind.{Kind}
 use Rattle.topo_base.specs.declared.rows.FeatureRow.{FeatureRow}
 use Rattle.topo_base.specs.declared.rows.LayerRow.{LayerRow}
 use Rattle.topo_base.specs.declared.rows.RelationRow.{RelationRow}
-use Rattle.topo_model.specs.Drawing.{Drawing, layer_at}
-use Rattle.topo_model.specs.Relations.{follow, followed, insert_row, is_among, is_hierarchical, lists_element, ordered, row_before, same_row, with_elements}
-use Rattle.topo_model.specs.Subdivision.{is_layer_known, is_row_known, names_differ, rows_ascend}
-use Rattle.topo_model.proofs.ListTests.{contains_cases, contains_here, contains_none, contains_there}
-use Rattle.topo_model.proofs.Members.{contains-mapped}
+use Rattle.drawing.specs.Drawing.{Drawing, layer_at}
+use Rattle.drawing.specs.Relations.{follow, followed, insert_row, is_among, is_hierarchical, lists_element, ordered, row_before, same_row, with_elements}
+use Rattle.drawing.specs.Subdivision.{is_layer_known, is_row_known, names_differ, rows_ascend}
+use Rattle.plane.proofs.ListTests.{contains_cases, contains_here, contains_none, contains_there}
+use Rattle.drawing.proofs.Members.{contains-mapped}
 use Rattle.relation_rows.proofs.Putting.{Ascend, ascend_put}
 use Rattle.ring_laws.proofs.Known.{all_in, all_out}
 use Rattle.reference_laws.proofs.KnownRows.{IsRow, KnowsRows, has_of, lists_of, lists_primitive, number_in, row_from, row_moves, row_parts}

@@ -11,11 +11,11 @@ use Rattle.topo_base.specs.declared.rule.Rule.TheVariants.{NoFace, NoFeature, Un
 use Rattle.topo_base.specs.declared.rows.FeatureRow.{FeatureRow}
 use Rattle.topo_base.specs.declared.rows.LayerRow.{LayerRow}
 use Rattle.topo_base.specs.declared.rows.RelationRow.{RelationRow}
-use Rattle.topo_model.specs.Drawing.{Drawing, feature_at, feature_id_of, has_edge, has_face, has_node, layer_at, layer_id_of}
-use Rattle.topo_model.specs.Layers.{element_rule_on, is_feature_of, missing, missing_element}
-use Rattle.topo_model.specs.Relations.{is_hierarchical, lists_element}
-use Rattle.topo_model.specs.Rows.{row_at}
-use Rattle.topo_model.specs.Subdivision.{is_layer_known, is_row_known, is_row_of, may_list, names_differ, rows_ascend}
+use Rattle.drawing.specs.Drawing.{Drawing, feature_at, feature_id_of, has_edge, has_face, has_node, layer_at, layer_id_of}
+use Rattle.drawing.specs.Layers.{element_rule_on, is_feature_of, missing, missing_element}
+use Rattle.drawing.specs.Relations.{is_hierarchical, lists_element}
+use Rattle.drawing.specs.Rows.{row_at}
+use Rattle.drawing.specs.Subdivision.{is_layer_known, is_row_known, is_row_of, may_list, names_differ, rows_ascend}
 
 -- ---- what a row of a layer may list
 -- the number of the elements' type, and whether the element is listed

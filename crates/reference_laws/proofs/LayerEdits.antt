@@ -13,20 +13,20 @@ use Rattle.topo_base.specs.declared.rows.FeatureRow.{FeatureRow}
 use Rattle.topo_base.specs.declared.rows.LayerRow.{LayerRow}
 use Rattle.topo_base.specs.declared.rows.RelationRow.{RelationRow}
 use Rattle.topo_base.specs.declared.rule.Rule.{Rule}
-use Rattle.topo_model.specs.Drawing.{Drawing, feature_at, feature_id_of, layer_at, layer_id_of}
-use Rattle.topo_model.specs.Layers.{element_rule, is_name_taken, row_for, same_kind, is_element_listed}
-use Rattle.topo_model.specs.Edits.{add_element, add_element_on, add_layer, layer_on, new_layer, rem_element, with_element}
-use Rattle.topo_model.specs.Outcome.{the_feature, the_layer}
-use Rattle.topo_model.specs.Relations.{insert_row, ordered, same_row}
-use Rattle.topo_model.specs.Rows.{row_at}
-use Rattle.topo_model.specs.Subdivision.{is_above, is_layer_known, is_row_known, is_row_of, names_differ}
-use Rattle.topo_model.specs.Change.{FeatureLists, FeatureUnlists}
+use Rattle.drawing.specs.Drawing.{Drawing, feature_at, feature_id_of, layer_at, layer_id_of}
+use Rattle.drawing.specs.Layers.{element_rule, is_name_taken, row_for, same_kind, is_element_listed}
+use Rattle.drawing.specs.Edits.{add_element, add_element_on, add_layer, layer_on, new_layer, rem_element, with_element}
+use Rattle.drawing.specs.Outcome.{the_feature, the_layer}
+use Rattle.drawing.specs.Relations.{insert_row, ordered, same_row}
+use Rattle.drawing.specs.Rows.{row_at}
+use Rattle.drawing.specs.Subdivision.{is_above, is_layer_known, is_row_known, is_row_of, names_differ}
+use Rattle.drawing.specs.Change.{FeatureLists, FeatureUnlists}
 use Rattle.topo_base.specs.declared.rule.Rule.TheVariants.{ElementListed, ElementNotListed}
-use Rattle.topo_model.proofs.Keeping.{Keeps, refused, refuses_else, refuses_or}
-use Rattle.topo_model.proofs.Members.{contains-filtered, contains-found, ids_within}
-use Rattle.topo_model.proofs.NameWords.{all_weaker}
-use Rattle.topo_model.proofs.Ordering.{InOrder}
-use Rattle.topo_model.proofs.RowLemmas.{row_at-append}
+use Rattle.drawing.proofs.Keeping.{Keeps, refused, refuses_else, refuses_or}
+use Rattle.drawing.proofs.Members.{contains-filtered, contains-found, ids_within}
+use Rattle.plane.proofs.ListTests.{all_weaker}
+use Rattle.drawing.proofs.Ordering.{InOrder}
+use Rattle.drawing.proofs.RowLemmas.{row_at-append}
 use Rattle.relation_rows.proofs.Putting.{AllAfter, Ascend, ascend_of, ascend_put}
 use Rattle.ring_laws.proofs.Known.{all_in}
 use Rattle.reference_laws.proofs.DrawingEdits.{KeepsRows, keep}

@@ -5,16 +5,16 @@ use Rattle.std.proofs.lemmas.Bool.{and_parts, and_from, eq-eqb}
 use Rattle.topo_base.specs.declared.edit.Edit.{Edit}
 use Rattle.topo_base.specs.declared.edit.Edit.TheVariants.{AddIsoNode, MoveIsoNode, RemoveIsoNode, AddIsoEdge, RemoveIsoEdge, AddEdgeModFace, AddEdgeNewFaces, RemEdgeModFace, RemEdgeNewFace, ModEdgeSplit, NewEdgesSplit, ModEdgeHeal, NewEdgeHeal, AddLayer, CreateTopoGeom, AddElement, RemElement, DropFeature}
 use Rattle.topo_base.specs.declared.edit.Entry.{Entry}
-use Rattle.topo_model.specs.Drawing.{Drawing, Edge, nothing_drawn, edge_at, edge_id_of, feature_at, feature_id_of, has_edge, has_face, has_node, layer_at, node_at}
-use Rattle.topo_model.specs.Legal.{are_accepted, ids_within, is_editor, is_entry, journal_length, keeps_limits}
-use Rattle.topo_model.specs.Outcome.{Outcome}
-use Rattle.topo_model.specs.Replay.{after, after_all, drawing_of, edits_of}
-use Rattle.topo_model.specs.Step.{step}
-use Rattle.topo_model.specs.Subdivision.{face_id_of, ids_in_order, is_edge_known, references_known}
-use Rattle.topo_model.proofs.IdsOrdering.{AllInOrder, all_keep}
-use Rattle.topo_model.proofs.Keeping.{Keeps}
-use Rattle.topo_model.proofs.Members.{contains-found}
-use Rattle.topo_model.proofs.Ordering.{InOrder}
+use Rattle.drawing.specs.Drawing.{Drawing, Edge, nothing_drawn, edge_at, edge_id_of, feature_at, feature_id_of, has_edge, has_face, has_node, layer_at, node_at}
+use Rattle.drawing.specs.Accepted.{keeps_limits}
+use Rattle.drawing.specs.Outcome.{Outcome}
+use Rattle.drawing.specs.Replay.{after, after_all, drawing_of, edits_of}
+use Rattle.drawing.specs.Step.{step}
+use Rattle.drawing.specs.Subdivision.{face_id_of, ids_in_order, is_edge_known, references_known}
+use Rattle.edit_changes.proofs.IdsOrdering.{AllInOrder, all_ordered}
+use Rattle.drawing.proofs.Keeping.{Keeps}
+use Rattle.drawing.proofs.Members.{contains-found}
+use Rattle.drawing.proofs.Ordering.{InOrder}
 use Rattle.relation_rows.proofs.KnownFeatures.{KnowsReferences, references_from, references_parts}
 use Rattle.ring_laws.proofs.Known.{all_out, any_in}
 use Rattle.ring_laws.proofs.RingsStaying.{rings_stay}
@@ -25,6 +25,7 @@ use Rattle.reference_laws.proofs.EdgeEdits.{gone_edge, heals, split}
 use Rattle.reference_laws.proofs.FeatureEdits.{feature, gone_feature}
 use Rattle.reference_laws.proofs.KnownRows.{KnowsRows}
 use Rattle.reference_laws.proofs.LayerEdits.{element, layer, less}
+use Rattle.edit_changes.proofs.Histories.{after_edits, in_histories}
 
 -- what an edit is told of the drawing before
 pub record IsBefore (S : Drawing) : Type 0 where
@@ -116,7 +117,7 @@ order_of S h =
 
 kept : (S : Drawing) (e : Edit) → IsTrue (keeps_limits e) → IsReferenced S → IsReferenced (after S e)
 kept S e limits h =
-    let order = all_keep S (e ∷ []) (order_of S h) in
+    let order = all_ordered S (e ∷ []) (order_of S h) in
     let starts = order.starts in
     record {
       rings = rings_stay.each_edit S e limits h.rings;
@@ -128,25 +129,11 @@ kept S e limits h =
 begun : IsReferenced nothing_drawn
 begun = record { rings = rings_stay.begins; starts = record { node = omega arith; edge = omega arith; layer = omega arith; feature = omega arith }; ids = refl; references = refl }
 
-edits_keep : (S : Drawing) (es : List Edit) → list_all keeps_limits es ≡ true → IsReferenced S → IsReferenced (after_all S es)
-edits_keep S [] each h = h
-edits_keep S (e ∷ es) each h = let both = and_parts (keeps_limits e) (list_all keeps_limits es) each in edits_keep (after S e) es both.1 (kept S e both.0 h)
-
--- the edits of a legal history keep the limits
-within_limits : (max_id : ℕ) (S : Drawing) (history : List Entry) → are_accepted max_id S history ≡ true → list_all keeps_limits (edits_of history) ≡ true
-within_limits max_id S [] k = refl
-within_limits max_id S (x ∷ xs) k =
-    let rest = and_parts (is_entry x && is_ok (step S x.edit) && ids_within max_id (after S x.edit)) (are_accepted max_id (after S x.edit) xs) k in
-    let some = and_parts (is_entry x && is_ok (step S x.edit)) (ids_within max_id (after S x.edit)) rest.0 in
-    let entry = and_parts (is_entry x) (is_ok (step S x.edit)) some.0 in
-    and_from (keeps_limits x.edit) (list_all keeps_limits (edits_of xs)) (and_parts (is_editor x.editor) (keeps_limits x.edit) entry.0).1 (within_limits max_id (after S x.edit) xs rest.1)
-
 pub references_stay : ReferencesStay
 references_stay = record {
   begins = begun;
   each_edit = edit_keeps;
   each_kept = kept;
-  all_edits = λ es each. edits_keep nothing_drawn es each begun;
-  each_history = λ max_id max_journal history legal.
-      edits_keep nothing_drawn (edits_of history) (within_limits max_id nothing_drawn history (and_parts (are_accepted max_id nothing_drawn history) (nat_le (journal_length history) max_journal) legal).0) begun;
+  all_edits = λ es each. after_edits IsReferenced kept nothing_drawn es each begun;
+  each_history = λ max_id. in_histories max_id IsReferenced kept begun;
 }

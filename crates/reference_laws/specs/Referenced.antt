@@ -4,10 +4,10 @@ use Rattle.std.specs.List.{list_all}
 use Rattle.topo_base.specs.declared.edit.Edit.{Edit}
 use Rattle.topo_base.specs.declared.edit.Entry.{Entry}
 use Rattle.topo_base.specs.declared.rows.Counters.{Counters}
-use Rattle.topo_model.specs.Drawing.{Drawing, nothing_drawn}
-use Rattle.topo_model.specs.Legal.{is_legal, keeps_limits}
-use Rattle.topo_model.specs.Replay.{after, after_all, replay}
-use Rattle.topo_model.specs.Subdivision.{ids_in_order, references_known}
+use Rattle.drawing.specs.Drawing.{Drawing, nothing_drawn}
+use Rattle.drawing.specs.Accepted.{is_accepted, keeps_limits}
+use Rattle.drawing.specs.Replay.{after, after_all, replay}
+use Rattle.drawing.specs.Subdivision.{ids_in_order, references_known}
 use Rattle.ring_laws.specs.Ringed.{IsRinged}
 
 -- the ids of new rows are 1 or more; face 0 is there from the beginning
@@ -30,6 +30,6 @@ pub record ReferencesStay : Type 0 where
   pub each_edit : (S : Drawing) (e : Edit) → IsTrue (keeps_limits e) → IsRinged S → IsTrue (ids_in_order S) → IsTrue (references_known S) → IsTrue (references_known (after S e))
   -- and it keeps such a drawing such
   pub each_kept : (S : Drawing) (e : Edit) → IsTrue (keeps_limits e) → IsReferenced S → IsReferenced (after S e)
-  -- so the drawing after any such edits is, and that of every legal history
+  -- so the drawing after any such edits is, and that of every accepted history
   pub all_edits : (es : List Edit) → IsTrue (list_all keeps_limits es) → IsReferenced (after_all nothing_drawn es)
-  pub each_history : (max_id max_journal : ℕ) (history : List Entry) → IsTrue (is_legal max_id max_journal history) → IsReferenced (replay history)
+  pub each_history : (max_id : ℕ) (history : List Entry) → IsTrue (is_accepted max_id history) → IsReferenced (replay history)

@@ -7,11 +7,11 @@ use Rattle.topo_base.specs.declared.rows.Counters.{Counters}
 use Rattle.topo_base.specs.declared.rows.FeatureRow.{FeatureRow}
 use Rattle.topo_base.specs.declared.rows.RelationRow.{RelationRow}
 use Rattle.topo_base.specs.declared.write.RowWrite.{RowWrite}
-use Rattle.topo_model.specs.Drawing.{Drawing}
-use Rattle.topo_model.specs.Relations.{row_before, same_row, insert_row, lists_element}
-use Rattle.topo_model.specs.Tables.{Tables, drawn}
-use Rattle.topo_model.specs.Writable.{CanWriteAll, has_feature_row, has_layer_row}
-use Rattle.topo_model.specs.Writes.{written}
+use Rattle.drawing.specs.Drawing.{Drawing}
+use Rattle.drawing.specs.Relations.{row_before, same_row, insert_row, lists_element}
+use Rattle.drawing.specs.Tables.{Tables, drawn}
+use Rattle.drawing.specs.Writable.{CanWriteAll, has_feature_row, has_layer_row}
+use Rattle.drawing.specs.Writes.{written}
 use Rattle.relation_rows.specs.Following.{row_goes, row_comes, replaced_by, feature_of, is_known, AreFeaturesOf}
 use Rattle.relation_rows.proofs.Order.{before_not_same, same_itself, same_same, same_turned}
 use Rattle.relation_rows.proofs.Putting.{Stand, stand, put_before, put_at, put_after, AllAfter, Ascend, ascend_of, without, drop_same, drop_other, adds}

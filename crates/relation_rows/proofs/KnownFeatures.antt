@@ -5,15 +5,15 @@ use Rattle.std.proofs.lemmas.Bool.{and_parts, and_from}
 use Rattle.topo_base.specs.declared.rows.FeatureRow.{FeatureRow}
 use Rattle.topo_base.specs.declared.rows.LayerRow.{LayerRow}
 use Rattle.topo_base.specs.declared.rows.RelationRow.{RelationRow}
-use Rattle.topo_model.specs.Content.{listing}
-use Rattle.topo_model.specs.Drawing.{Drawing, feature_at, feature_id_of, has_face, layer_at, layer_id_of}
-use Rattle.topo_model.specs.Relations.{lists_element}
-use Rattle.topo_model.specs.Rows.{has_row}
-use Rattle.topo_model.specs.Subdivision.{is_edge_known, is_layer_known, is_node_known, is_row_known, is_row_of, may_list, names_differ, references_known, rows_ascend}
-use Rattle.topo_model.specs.Tables.{Tables}
-use Rattle.topo_model.specs.Writable.{has_feature_row, has_layer_row}
-use Rattle.topo_model.proofs.NameWords.{all_weaker}
-use Rattle.topo_model.proofs.RowLemmas.{is_some-row_at}
+use Rattle.drawing.specs.Content.{listing}
+use Rattle.drawing.specs.Drawing.{Drawing, feature_at, feature_id_of, has_face, layer_at, layer_id_of}
+use Rattle.drawing.specs.Relations.{lists_element}
+use Rattle.drawing.specs.Rows.{has_row}
+use Rattle.drawing.specs.Subdivision.{is_edge_known, is_layer_known, is_node_known, is_row_known, is_row_of, may_list, names_differ, references_known, rows_ascend}
+use Rattle.drawing.specs.Tables.{Tables}
+use Rattle.drawing.specs.Writable.{has_feature_row, has_layer_row}
+use Rattle.plane.proofs.ListTests.{all_weaker}
+use Rattle.drawing.proofs.RowLemmas.{is_some-row_at}
 use Rattle.relation_rows.specs.Following.{AreFeaturesOf, feature_of, has_layer_of, is_known}
 
 -- ---- the parts of the test

@@ -6,13 +6,13 @@ use Rattle.std.proofs.lemmas.List.Folds.{list_any-append}
 use Rattle.topo_base.specs.declared.rows.FeatureRow.{FeatureRow}
 use Rattle.topo_base.specs.declared.rows.LayerRow.{LayerRow}
 use Rattle.topo_base.specs.declared.rows.RelationRow.{RelationRow}
-use Rattle.topo_model.specs.Content.{listing}
-use Rattle.topo_model.specs.Drawing.{Drawing, feature_at, feature_id_of, layer_id_of}
-use Rattle.topo_model.specs.Relations.{row_before, same_row, insert_row, ordered, is_among, lists_element, followed, follow}
-use Rattle.topo_model.specs.Rows.{has_row}
-use Rattle.topo_model.specs.Subdivision.{is_row_known, references_known, rows_ascend}
-use Rattle.topo_model.specs.Tables.{Tables, drawn}
-use Rattle.topo_model.specs.Writable.{has_feature_row, has_layer_row}
+use Rattle.drawing.specs.Content.{listing}
+use Rattle.drawing.specs.Drawing.{Drawing, feature_at, feature_id_of, layer_id_of}
+use Rattle.drawing.specs.Relations.{row_before, same_row, insert_row, ordered, is_among, lists_element, followed, follow}
+use Rattle.drawing.specs.Rows.{has_row}
+use Rattle.drawing.specs.Subdivision.{is_row_known, references_known, rows_ascend}
+use Rattle.drawing.specs.Tables.{Tables, drawn}
+use Rattle.drawing.specs.Writable.{has_feature_row, has_layer_row}
 use Rattle.relation_rows.specs.Following.{AreFeaturesOf, feature_of, has_layer_of, is_known}
 use Rattle.relation_rows.specs.KnownRows.{EachRow, HasLayer, KnowsRows}
 use Rattle.relation_rows.proofs.KnownFeatures.{known_row, layer_in, references_parts}

@@ -5,10 +5,10 @@ use Rattle.topo_base.specs.declared.rows.Counters.{Counters}
 use Rattle.topo_base.specs.declared.rows.FeatureRow.{FeatureRow}
 use Rattle.topo_base.specs.declared.rows.RelationRow.{RelationRow}
 use Rattle.topo_base.specs.declared.write.RowWrite.{RowWrite}
-use Rattle.topo_model.specs.Drawing.{Drawing}
-use Rattle.topo_model.specs.Relations.{lists_element, followed, follow, ordered}
-use Rattle.topo_model.specs.Tables.{Tables, drawn}
-use Rattle.topo_model.specs.Writes.{all_written}
+use Rattle.drawing.specs.Drawing.{Drawing}
+use Rattle.drawing.specs.Relations.{lists_element, followed, follow, ordered}
+use Rattle.drawing.specs.Tables.{Tables, drawn}
+use Rattle.drawing.specs.Writes.{all_written}
 use Rattle.relation_rows.specs.Following.{AreFeaturesOf}
 use Rattle.relation_rows.proofs.Replacing.{equal}
 use Rattle.relation_rows.proofs.Writing.{with_rows}

@@ -2,7 +2,7 @@
 use Rattle.std.proofs.Common.{◌≡◌, ◌∙◌, ℕ, Bool, true, false, arith, ◌&&◌, ◌||◌, ◌==◌, nat_lt, refl, sym, subst}
 use Rattle.std.proofs.lemmas.Bool.Decides.{nat_tests}
 use Rattle.topo_base.specs.declared.rows.RelationRow.{RelationRow}
-use Rattle.topo_model.specs.Relations.{row_before, same_row}
+use Rattle.drawing.specs.Relations.{row_before, same_row}
 
 pub before_not_same : (a b : RelationRow) → row_before a b ≡ true → same_row a b ≡ false
 before_not_same a b h = grind (arith, nat_tests)

@@ -2,8 +2,8 @@
 use Rattle.std.proofs.Common.{◌≡◌, ◌∙◌, Bool, true, false, not, cond, List, [], ◌∷◌, ◌++◌, filter, refl, sym, ap, subst}
 use Rattle.std.proofs.lemmas.Bool.{and_parts}
 use Rattle.topo_base.specs.declared.rows.RelationRow.{RelationRow}
-use Rattle.topo_model.specs.Relations.{row_before, same_row, insert_row, ordered}
-use Rattle.topo_model.specs.Subdivision.{rows_ascend}
+use Rattle.drawing.specs.Relations.{row_before, same_row, insert_row, ordered}
+use Rattle.drawing.specs.Subdivision.{rows_ascend}
 use Rattle.relation_rows.proofs.Order.{before_not_same, before_not_after, same_not_before, before_trans, same_before, before_same, same_same, same_turned, after_else}
 
 -- how one row stands to another

@@ -5,8 +5,8 @@ use Rattle.std.proofs.lemmas.Bool.{and_parts, and_from}
 use Rattle.std.proofs.lemmas.Bool.Decides.{nat_tests}
 use Rattle.topo_base.specs.declared.rows.FeatureRow.{FeatureRow}
 use Rattle.topo_base.specs.declared.rows.RelationRow.{RelationRow}
-use Rattle.topo_model.specs.Drawing.{Drawing}
-use Rattle.topo_model.specs.Relations.{row_before, same_row, insert_row, ordered, is_among, is_hierarchical, lists_element, with_elements, followed}
+use Rattle.drawing.specs.Drawing.{Drawing}
+use Rattle.drawing.specs.Relations.{row_before, same_row, insert_row, ordered, is_among, is_hierarchical, lists_element, with_elements, followed}
 use Rattle.relation_rows.specs.Following.{feature_of, has_layer_of}
 use Rattle.relation_rows.proofs.Order.{before_not_same, same_itself, same_turned, same_element, same_topogeo, same_type}
 use Rattle.relation_rows.proofs.Putting.{AllAfter, Ascend, put_first, without, drop_same, drop_none, drop_put, puts, adds, ordered_puts, ascend_puts, ascend_adds, ascend_drop, AllAgree, AgreePairwise, adds_put, adds_puts}

@@ -2,10 +2,10 @@
 use Rattle.std.proofs.Common.{◌≡◌, ◌∙◌, ℕ, Bool, List, [], ◌∷◌, map, filter, refl, ap}
 use Rattle.topo_base.specs.declared.rows.FeatureRow.{FeatureRow}
 use Rattle.topo_base.specs.declared.rows.RelationRow.{RelationRow}
-use Rattle.topo_model.specs.Content.{listing}
-use Rattle.topo_model.specs.Drawing.{Drawing, feature_id_of}
-use Rattle.topo_model.specs.Relations.{lists_element, features_of}
-use Rattle.topo_model.specs.RemoveEdge.{same_numbers, have_same_features}
+use Rattle.drawing.specs.Content.{listing}
+use Rattle.drawing.specs.Drawing.{Drawing, feature_id_of}
+use Rattle.drawing.specs.Relations.{lists_element, features_of}
+use Rattle.drawing.specs.RemoveEdge.{same_numbers, have_same_features}
 use Rattle.relation_rows.specs.Following.{feature_of}
 
 ids_of : (rows : List RelationRow) → map feature_id_of (map feature_of rows) ≡ map (λ (row : RelationRow). row.topogeo_id) rows

@@ -1,7 +1,7 @@
 -- Lists of numbers of which one has ended.
 use Rattle.std.proofs.Common.{◌≡◌, ℕ, ◌<◌, ◌≤◌, Bool, true, false, List, [], ◌∷◌, length, refl, sym, ap, ◌∙◌, eqb, eqb-true, arith}
 use Rattle.std.proofs.lemmas.Bool.Decides.{nat_tests}
-use Rattle.topo_model.specs.RemoveEdge.{same_numbers}
+use Rattle.drawing.specs.RemoveEdge.{same_numbers}
 
 none_and_some : (ys : List ℕ) → 0 < length ys → false ≡ same_numbers [] ys
 none_and_some [] some = absurd (omega (arith, some))

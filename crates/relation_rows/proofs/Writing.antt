@@ -6,9 +6,9 @@ use Rattle.topo_base.specs.declared.rows.Counters.{Counters}
 use Rattle.topo_base.specs.declared.rows.FeatureRow.{FeatureRow}
 use Rattle.topo_base.specs.declared.rows.RelationRow.{RelationRow}
 use Rattle.topo_base.specs.declared.write.RowWrite.{RowWrite}
-use Rattle.topo_model.specs.Relations.{lists_element, follow}
-use Rattle.topo_model.specs.Tables.{Tables, drawn}
-use Rattle.topo_model.specs.Writes.{written, all_written}
+use Rattle.drawing.specs.Relations.{lists_element, follow}
+use Rattle.drawing.specs.Tables.{Tables, drawn}
+use Rattle.drawing.specs.Writes.{written, all_written}
 use Rattle.relation_rows.specs.Following.{row_goes, row_comes, replaced_by, has_layer_of, AreFeaturesOf}
 use Rattle.relation_rows.proofs.Putting.{ascend_of, adds, without}
 use Rattle.relation_rows.proofs.Replacing.{row_of, replaced, features_in, replaced_follows}

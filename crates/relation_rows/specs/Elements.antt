@@ -2,7 +2,7 @@
 use Rattle.std.specs.Prelude.{ℕ, Bool, true, false}
 use Rattle.topo_base.specs.declared.element.Element.{Element}
 use Rattle.topo_base.specs.declared.element.Element.TheVariants.{Node, Edge, Face}
-use Rattle.topo_model.specs.Relations.{node_type, edge_type, face_type}
+use Rattle.drawing.specs.Relations.{node_type, edge_type, face_type}
 
 -- a node, an edge or a face
 abbrev pub is_primitive : Element → Bool

@@ -1,8 +1,8 @@
 -- The features that list an element, in the order of some relation rows.
 use Rattle.std.specs.Prelude.{ℕ, List, map, filter}
 use Rattle.topo_base.specs.declared.rows.RelationRow.{RelationRow}
-use Rattle.topo_model.specs.Drawing.{Drawing}
-use Rattle.topo_model.specs.Relations.{lists_element}
+use Rattle.drawing.specs.Drawing.{Drawing}
+use Rattle.drawing.specs.Relations.{lists_element}
 
 abbrev pub feature_id : RelationRow → ℕ
 feature_id row = row.topogeo_id

@@ -6,11 +6,11 @@ use Rattle.topo_base.specs.declared.rows.RelationRow.{RelationRow}
 use Rattle.topo_base.specs.declared.write.RowId.TheVariants.{Old}
 use Rattle.topo_base.specs.declared.write.RowWrite.{RowWrite}
 use Rattle.topo_base.specs.declared.write.RowWrite.TheVariants.{AddRow, DropRow}
-use Rattle.topo_model.specs.Content.{listing}
-use Rattle.topo_model.specs.Relations.{lists_element}
-use Rattle.topo_model.specs.Subdivision.{rows_ascend}
-use Rattle.topo_model.specs.Tables.{Tables, drawn}
-use Rattle.topo_model.specs.Writable.{has_feature_row, has_layer_row}
+use Rattle.drawing.specs.Content.{listing}
+use Rattle.drawing.specs.Relations.{lists_element}
+use Rattle.drawing.specs.Subdivision.{rows_ascend}
+use Rattle.drawing.specs.Tables.{Tables, drawn}
+use Rattle.drawing.specs.Writable.{has_feature_row, has_layer_row}
 
 -- the feature of a row, with its layer
 abbrev pub feature_of : RelationRow → FeatureRow

@@ -1,8 +1,8 @@
 -- Relation rows of known features.
 use Rattle.std.specs.Prelude.{◌≡◌, ℕ, IsTrue, true, List, [], ◌∷◌}
 use Rattle.topo_base.specs.declared.rows.RelationRow.{RelationRow}
-use Rattle.topo_model.specs.Subdivision.{rows_ascend}
-use Rattle.topo_model.specs.Tables.{Tables}
+use Rattle.drawing.specs.Subdivision.{rows_ascend}
+use Rattle.drawing.specs.Tables.{Tables}
 use Rattle.relation_rows.specs.Following.{feature_of, is_known}
 
 -- a quality of each row

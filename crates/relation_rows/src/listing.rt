@@ -1,8 +1,8 @@
 // Which features list an element.
 ghost use Rattle.std.specs.Prelude.{◌≡◌, ◌+◌, ◌*◌, ◌≤◌, IsTrue, IfOk, length, filter, map};
-ghost use Rattle.topo_model.specs.Content.{listing};
-ghost use Rattle.topo_model.specs.Relations.{is_hierarchical, lists_element};
-ghost use Rattle.topo_model.specs.Tables.{drawn};
+ghost use Rattle.drawing.specs.Content.{listing};
+ghost use Rattle.drawing.specs.Relations.{is_hierarchical, lists_element};
+ghost use Rattle.drawing.specs.Tables.{drawn};
 ghost use Rattle.relation_rows.specs.Elements.{is_primitive, number_of, type_of};
 ghost use Rattle.relation_rows.specs.Following.{feature_of};
 

@@ -1,10 +1,10 @@
 // Elements that are merged into another.
 ghost use Rattle.std.specs.Prelude.{◌≡◌, ◌∷◌, [], flat_map, IsTrue, IfOk};
 ghost use Rattle.topo_base.specs.declared.rows.Counters.{Counters};
-ghost use Rattle.topo_model.specs.Relations.{follow};
-ghost use Rattle.topo_model.specs.Tables.{Tables as TablesValue, drawn};
-ghost use Rattle.topo_model.specs.Writable.{CanWriteAll};
-ghost use Rattle.topo_model.specs.Writes.{all_written};
+ghost use Rattle.drawing.specs.Relations.{follow};
+ghost use Rattle.drawing.specs.Tables.{Tables as TablesValue, drawn};
+ghost use Rattle.drawing.specs.Writable.{CanWriteAll};
+ghost use Rattle.drawing.specs.Writes.{all_written};
 ghost use Rattle.relation_rows.specs.Elements.{is_primitive, number_of, type_of};
 ghost use Rattle.relation_rows.specs.Following.{AreFeaturesOf, replaced_by};
 

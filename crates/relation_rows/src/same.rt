@@ -1,9 +1,9 @@
 // Lists of the same features.
 ghost use Rattle.std.specs.Prelude.{◌≡◌, ◌==◌, ℕ, map};
-ghost use Rattle.topo_model.specs.Content.{listing};
-ghost use Rattle.topo_model.specs.Drawing.{Drawing, feature_id_of};
-ghost use Rattle.topo_model.specs.Relations.{lists_element};
-ghost use Rattle.topo_model.specs.RemoveEdge.{have_same_features, same_numbers};
+ghost use Rattle.drawing.specs.Content.{listing};
+ghost use Rattle.drawing.specs.Drawing.{Drawing, feature_id_of};
+ghost use Rattle.drawing.specs.Relations.{lists_element};
+ghost use Rattle.drawing.specs.RemoveEdge.{have_same_features, same_numbers};
 
 use crate::features::FeatureList;
 use topo_base::FeatureRow;

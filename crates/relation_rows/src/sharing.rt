@@ -2,8 +2,8 @@
 ghost use Rattle.std.specs.Prelude.{◌≡◌, ◌≤◌, ◌<◌, ◌+◌, ◌==◌, ◌∷◌, [], drop, length};
 ghost use Rattle.std.specs.List.{slice_index_or};
 ghost use Rattle.topo_base.specs.declared.rows.RelationRow.{RelationRow as RelationValue};
-ghost use Rattle.topo_model.specs.RemoveEdge.{have_same_features};
-ghost use Rattle.topo_model.specs.Tables.{drawn};
+ghost use Rattle.drawing.specs.RemoveEdge.{have_same_features};
+ghost use Rattle.drawing.specs.Tables.{drawn};
 ghost use Rattle.relation_rows.specs.Features.{feature_id, features_in};
 
 use crate::listing::lists_element;

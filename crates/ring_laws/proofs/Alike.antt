@@ -4,14 +4,14 @@ use Rattle.std.specs.Prelude.{◌==◌, nat_lt, int_lt}
 use Rattle.std.specs.List.{Contains}
 use Rattle.topo_base.specs.Point.{Point}
 use Rattle.topo_base.specs.RationalPoint.{IsBetween}
-use Rattle.topo_model.specs.Direction.{Direction, direction_to, cross, dot, quarter, is_nearer, same_direction, IsNotZero, OneDirection}
-use Rattle.topo_model.specs.HalfEdge.{HalfEdge}
-use Rattle.topo_model.specs.Orientation.{area}
-use Rattle.topo_model.specs.Relation.{SameCoordinates}
-use Rattle.topo_model.specs.Star.{leaving}
-use Rattle.topo_model.proofs.Directions.{nearer_self, nearer_total, one_quarter, quarter_of_one, same_in, same_out}
-use Rattle.topo_model.proofs.Ring.{multiplied, signed}
-use Rattle.topo_model.proofs.Signs.{mul_not_negative, mul_positive, order}
+use Rattle.plane.specs.Direction.{Direction, direction_to, cross, dot, quarter, is_nearer, same_direction, IsNotZero, OneDirection}
+use Rattle.drawing.specs.HalfEdge.{HalfEdge}
+use Rattle.plane.specs.Orientation.{area}
+use Rattle.plane.specs.Relation.{SameCoordinates}
+use Rattle.drawing.specs.Star.{leaving}
+use Rattle.plane.proofs.Directions.{nearer_self, nearer_total, one_quarter, quarter_of_one, same_in, same_out}
+use Rattle.plane.proofs.Ring.{multiplied, signed}
+use Rattle.plane.proofs.Signs.{mul_not_negative, mul_positive, order}
 use Rattle.ring_laws.proofs.Turning.{AreSpread, Turns, AreJoined}
 
 -- ---- a point on a segment is in its direction

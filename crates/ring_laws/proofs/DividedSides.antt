@@ -3,13 +3,13 @@ use Rattle.std.proofs.Common.{zero, suc, ◌≡◌, ℕ, refl, sym, ◌∙◌, a
 use Rattle.std.specs.Prelude.{flat_map, ◌==◌}
 use Rattle.std.specs.List.{Contains}
 use Rattle.std.proofs.lemmas.Bool.{eqb-true}
-use Rattle.topo_model.specs.AddEdge.{Division, part_at, part_beside, divided_side, divided_edge, divided}
-use Rattle.topo_model.specs.Drawing.{Drawing, Edge}
-use Rattle.topo_model.specs.HalfEdge.{HalfEdge, forward_of, backward_of, both_ways, half_edges, dart_of}
-use Rattle.topo_model.specs.Ring.{ring_of, contains_half_edge}
-use Rattle.topo_model.specs.Star.{next_of}
-use Rattle.topo_model.specs.Subdivision.{rings_have_one_face}
-use Rattle.topo_model.proofs.Members.{contains-mapped}
+use Rattle.drawing.specs.AddEdge.{Division, part_at, part_beside, divided_side, divided_edge, divided}
+use Rattle.drawing.specs.Drawing.{Drawing, Edge}
+use Rattle.drawing.specs.HalfEdge.{HalfEdge, forward_of, backward_of, both_ways, half_edges, dart_of}
+use Rattle.drawing.specs.Ring.{ring_of, contains_half_edge}
+use Rattle.drawing.specs.Star.{next_of}
+use Rattle.drawing.specs.Subdivision.{rings_have_one_face}
+use Rattle.drawing.proofs.Members.{contains-mapped}
 use Rattle.face_rings.specs.Border.{next_dart}
 use Rattle.face_rings.specs.FaceBorder.{face_border, HasRings}
 use Rattle.face_rings.proofs.FaceBorders.{has_plain_lines, half_by_dart}

@@ -1,9 +1,9 @@
 -- What follows a half-edge does not depend on faces.
 use Rattle.std.proofs.Common.{◌≡◌, Bool, true, false, cond, ◌&&◌, not, List, [], ◌∷◌, map, filter, option_map, Option, Some, None, refl, ap, ◌∙◌}
 use Rattle.std.specs.Prelude.{fold}
-use Rattle.topo_model.specs.Direction.{Direction, is_nearer}
-use Rattle.topo_model.specs.HalfEdge.{HalfEdge, twin, leaves, same_half_edge, dart_of}
-use Rattle.topo_model.specs.Star.{leaving, nearer_of, first_clockwise, or_twin, next_of}
+use Rattle.plane.specs.Direction.{Direction, is_nearer}
+use Rattle.drawing.specs.HalfEdge.{HalfEdge, twin, leaves, same_half_edge, dart_of}
+use Rattle.drawing.specs.Star.{leaving, nearer_of, first_clockwise, or_twin, next_of}
 
 -- a half-edge without its faces
 abbrev pub faceless : HalfEdge → HalfEdge

@@ -3,11 +3,11 @@ use Rattle.std.proofs.Common.{◌≡◌, ℕ, refl, sym, ◌∙◌, ap, subst, �
 use Rattle.std.specs.Prelude.{fold}
 use Rattle.std.specs.List.{Contains}
 use Rattle.std.proofs.lemmas.Bool.{false≢true, false_from_ne_true, cases_eq}
-use Rattle.topo_model.specs.Direction.{Direction, is_nearer, same_direction, IsNotZero}
-use Rattle.topo_model.specs.HalfEdge.{HalfEdge}
-use Rattle.topo_model.specs.Star.{leaving, farther_of}
-use Rattle.topo_model.proofs.Directions.{nearer_self, nearer_onward, nearer_cyclic}
-use Rattle.topo_model.proofs.ListTests.{contains_here, contains_there, contains_cases, contains_none}
+use Rattle.plane.specs.Direction.{Direction, is_nearer, same_direction, IsNotZero}
+use Rattle.drawing.specs.HalfEdge.{HalfEdge}
+use Rattle.drawing.specs.Star.{leaving, farther_of}
+use Rattle.plane.proofs.Directions.{nearer_self, nearer_onward, nearer_cyclic}
+use Rattle.plane.proofs.ListTests.{contains_here, contains_there, contains_cases, contains_none}
 use Rattle.face_rings.proofs.Ranks.{by_bool}
 use Rattle.ring_laws.proofs.Turning.{AreSpread, apart_at, one_of_equals, Turns, AreJoined, turns_within}
 

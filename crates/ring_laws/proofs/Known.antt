@@ -5,16 +5,16 @@ use Rattle.std.specs.List.{Contains, find, list_all, list_any}
 use Rattle.std.proofs.lemmas.Bool.{and_parts, and_from, eqb-true, eq-eqb, false≢true, false_from_ne_true, not-true}
 use Rattle.std.proofs.lemmas.List.Elements.{All-contains}
 use Rattle.topo_base.specs.declared.rows.NodeRow.{NodeRow}
-use Rattle.topo_model.specs.Direction.{Direction}
-use Rattle.topo_model.specs.Drawing.{Drawing, Edge, node_id_of, has_node, has_face, is_end_of, is_isolated}
-use Rattle.topo_model.specs.Faces.{face_after, wedge_face}
-use Rattle.topo_model.specs.HalfEdge.{HalfEdge, forward_of, backward_of, half_edges, leaves}
-use Rattle.topo_model.specs.IsoEdits.{put_in_face}
-use Rattle.topo_model.specs.Star.{last_clockwise}
-use Rattle.topo_model.specs.Subdivision.{is_edge_known, is_face_known, is_node_known}
-use Rattle.topo_model.proofs.BlockedTests.{all_from}
-use Rattle.topo_model.proofs.ListTests.{Some_of, Decides-any, Decides-all}
-use Rattle.topo_model.proofs.Members.{contains-mapped, contains-filtered, contains-found}
+use Rattle.plane.specs.Direction.{Direction}
+use Rattle.drawing.specs.Drawing.{Drawing, Edge, node_id_of, has_node, has_face, is_end_of, is_isolated}
+use Rattle.drawing.specs.Faces.{face_after, wedge_face}
+use Rattle.drawing.specs.HalfEdge.{HalfEdge, forward_of, backward_of, half_edges, leaves}
+use Rattle.drawing.specs.IsoEdits.{put_in_face}
+use Rattle.drawing.specs.Star.{last_clockwise}
+use Rattle.drawing.specs.Subdivision.{is_edge_known, is_face_known, is_node_known}
+use Rattle.plane.proofs.LineTests.{all_from}
+use Rattle.plane.proofs.ListTests.{Some_of, Decides-any, Decides-all}
+use Rattle.drawing.proofs.Members.{contains-mapped, contains-filtered, contains-found}
 use Rattle.face_rings.proofs.HalfLines.{HasPlainLines}
 use Rattle.face_rings.proofs.HalvesApart.{half_of}
 use Rattle.ring_laws.proofs.Inserting.{NoneLeaves, farthest_is}

@@ -6,17 +6,17 @@ use Rattle.std.proofs.lemmas.Bool.{and_parts, and_from, or_cases, or_left, or_ri
 use Rattle.std.proofs.lemmas.List.Elements.{Contains-push_cases, Contains-push, Contains-append_left, Contains-append_right}
 use Rattle.topo_base.specs.Point.{Point}
 use Rattle.topo_base.specs.declared.rows.NodeRow.{NodeRow}
-use Rattle.topo_model.specs.AddEdge.{Division, coming, part_at, divided_side, divided_edge, divided_node, divided, keeps_left, one_new, two_new}
-use Rattle.topo_model.specs.Drawing.{Drawing, Edge, node_id_of, edge_id_of, has_face, is_end_of, is_isolated}
-use Rattle.topo_model.specs.Faces.{face_at, is_in_face}
-use Rattle.topo_model.specs.HalfEdge.{HalfEdge, forward_of, backward_of, half_edges}
-use Rattle.topo_model.specs.IsoEdits.{with_node, with_edge, put_in_face, put_at}
-use Rattle.topo_model.specs.PlainLaw.{IsPlainInOrder}
-use Rattle.topo_model.specs.Ring.{ring_of, contains_half_edge, least_vertex}
-use Rattle.topo_model.specs.Rows.{without_row}
-use Rattle.topo_model.specs.Subdivision.{is_face_known, is_node_known}
-use Rattle.topo_model.proofs.ListTests.{contains_here, contains_there}
-use Rattle.topo_model.proofs.Members.{contains-map, contains-mapped, contains-filter, contains-filtered, ids_within}
+use Rattle.drawing.specs.AddEdge.{Division, coming, part_at, divided_side, divided_edge, divided_node, divided, keeps_left, one_new, two_new}
+use Rattle.drawing.specs.Drawing.{Drawing, Edge, node_id_of, edge_id_of, has_face, is_end_of, is_isolated}
+use Rattle.drawing.specs.Faces.{face_at, is_in_face}
+use Rattle.drawing.specs.HalfEdge.{HalfEdge, forward_of, backward_of, half_edges}
+use Rattle.drawing.specs.IsoEdits.{with_node, with_edge, put_in_face, put_at}
+use Rattle.drawing.specs.PlainInOrder.{IsPlainInOrder}
+use Rattle.drawing.specs.Ring.{ring_of, contains_half_edge, least_vertex}
+use Rattle.drawing.specs.Rows.{without_row}
+use Rattle.drawing.specs.Subdivision.{is_face_known, is_node_known}
+use Rattle.plane.proofs.ListTests.{contains_here, contains_there}
+use Rattle.drawing.proofs.Members.{contains-map, contains-mapped, contains-filter, contains-filtered, ids_within}
 use Rattle.face_rings.proofs.HalfLines.{HasPlainLines}
 use Rattle.face_rings.proofs.HalvesApart.{one_edge}
 use Rattle.face_rings.proofs.Ranks.{by_bool}

@@ -6,14 +6,14 @@ use Rattle.std.proofs.lemmas.Bool.{and_parts, and_from, eqb-true, eq-eqb, falseâ
 use Rattle.std.proofs.lemmas.List.Elements.{Contains-push, Contains-append_left}
 use Rattle.topo_base.specs.declared.rows.NodeRow.{NodeRow}
 use Rattle.topo_base.specs.declared.rows.Counters.{Counters}
-use Rattle.topo_model.specs.Drawing.{Drawing, Edge, edge_id_of, has_face, is_end_of, is_isolated}
-use Rattle.topo_model.specs.HalfEdge.{HalfEdge, forward_of, backward_of, both_ways, half_edges, twin, dart_of}
-use Rattle.topo_model.specs.Relations.{is_among}
-use Rattle.topo_model.specs.RemoveEdge.{renamed, renamed_edge, renamed_node, without_edge, without_faces}
-use Rattle.topo_model.specs.Rows.{without_row}
-use Rattle.topo_model.specs.Star.{next_of}
-use Rattle.topo_model.specs.Subdivision.{is_face_known, is_node_known, rings_have_one_face}
-use Rattle.topo_model.proofs.Members.{contains-map, contains-mapped, contains-filter}
+use Rattle.drawing.specs.Drawing.{Drawing, Edge, edge_id_of, has_face, is_end_of, is_isolated}
+use Rattle.drawing.specs.HalfEdge.{HalfEdge, forward_of, backward_of, both_ways, half_edges, twin, dart_of}
+use Rattle.drawing.specs.Relations.{is_among}
+use Rattle.drawing.specs.RemoveEdge.{renamed, renamed_edge, renamed_node, without_edge, without_faces}
+use Rattle.drawing.specs.Rows.{without_row}
+use Rattle.drawing.specs.Star.{next_of}
+use Rattle.drawing.specs.Subdivision.{is_face_known, is_node_known, rings_have_one_face}
+use Rattle.drawing.proofs.Members.{contains-map, contains-mapped, contains-filter}
 use Rattle.face_rings.proofs.FaceBorders.{half_by_dart}
 use Rattle.face_rings.proofs.HalfLines.{HasPlainLines}
 use Rattle.face_rings.proofs.HalvesApart.{half_of, forward_there, backward_there, one_edge}

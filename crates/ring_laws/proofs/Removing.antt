@@ -3,13 +3,13 @@ use Rattle.std.proofs.Common.{◌≡◌, ℕ, refl, sym, ◌∙◌, ap, subst, �
 use Rattle.std.specs.Prelude.{flat_map, ◌==◌}
 use Rattle.std.specs.List.{Contains}
 use Rattle.std.proofs.lemmas.Bool.{eqb-true, eq-eqb, false≢true, false_from_ne_true, cases_eq}
-use Rattle.topo_model.specs.Direction.{is_nearer}
-use Rattle.topo_model.specs.Drawing.{Drawing, Edge, edge_id_of}
-use Rattle.topo_model.specs.HalfEdge.{HalfEdge, forward_of, backward_of, both_ways, half_edges}
-use Rattle.topo_model.specs.Rows.{without_row}
-use Rattle.topo_model.specs.Star.{leaving}
-use Rattle.topo_model.proofs.Directions.{nearer_self, nearer_onward, nearer_cyclic}
-use Rattle.topo_model.proofs.ListTests.{contains_here, contains_there, contains_cases}
+use Rattle.plane.specs.Direction.{is_nearer}
+use Rattle.drawing.specs.Drawing.{Drawing, Edge, edge_id_of}
+use Rattle.drawing.specs.HalfEdge.{HalfEdge, forward_of, backward_of, both_ways, half_edges}
+use Rattle.drawing.specs.Rows.{without_row}
+use Rattle.drawing.specs.Star.{leaving}
+use Rattle.plane.proofs.Directions.{nearer_self, nearer_onward, nearer_cyclic}
+use Rattle.plane.proofs.ListTests.{contains_here, contains_there, contains_cases}
 use Rattle.face_rings.proofs.HalfLines.{HasPlainLines}
 use Rattle.face_rings.proofs.HalvesApart.{half_of, forward_there, backward_there, one_edge}
 use Rattle.face_rings.proofs.Ranks.{by_bool}

@@ -5,13 +5,13 @@ use Rattle.std.specs.List.{Contains}
 use Rattle.std.proofs.lemmas.Bool.{false≢true, cases_lt}
 use Rattle.topo_base.specs.Darts.{same_dart}
 use Rattle.topo_base.specs.declared.ids.Dart.{Dart}
-use Rattle.topo_model.specs.Drawing.{Drawing}
-use Rattle.topo_model.specs.HalfEdge.{HalfEdge, half_edges, same_half_edge, comes_before, dart_of}
-use Rattle.topo_model.specs.Line.{first_vertex}
-use Rattle.topo_model.specs.Ring.{walk, ring_of, contains_half_edge, earlier_of, least_vertex}
-use Rattle.topo_model.specs.Star.{next_of}
-use Rattle.topo_model.proofs.ListTests.{contains_here, contains_there, contains_cases, contains_none, Decides-any}
-use Rattle.topo_model.proofs.Members.{contains-map, contains-mapped}
+use Rattle.drawing.specs.Drawing.{Drawing}
+use Rattle.drawing.specs.HalfEdge.{HalfEdge, half_edges, same_half_edge, comes_before, dart_of}
+use Rattle.plane.specs.Line.{first_vertex}
+use Rattle.drawing.specs.Ring.{walk, ring_of, contains_half_edge, earlier_of, least_vertex}
+use Rattle.drawing.specs.Star.{next_of}
+use Rattle.plane.proofs.ListTests.{contains_here, contains_there, contains_cases, contains_none, Decides-any}
+use Rattle.drawing.proofs.Members.{contains-map, contains-mapped}
 use Rattle.face_rings.specs.declared.content.BorderDart.{BorderDart}
 use Rattle.face_rings.specs.Border.{has_dart, next_dart}
 use Rattle.face_rings.specs.Rings.{ring_of as ring_of_dart}

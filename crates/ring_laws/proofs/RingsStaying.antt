@@ -10,34 +10,35 @@ use Rattle.topo_base.specs.declared.rows.NodeRow.{NodeRow}
 use Rattle.topo_base.specs.declared.rule.Rule.TheVariants.{NoFace, SameNode, NotIsolated, PointBlocked, NotInFace, LineEnds, LineNotSimple, LineBlocked, NodeInFeature, EdgeInFeature, FaceInFeature, WrongKind, NameTaken, ElementListed, ElementNotListed, FeatureUsed, NotOnEdge, ClosedEdge, NotJoined, HealSplitsFeature}
 use Rattle.topo_base.specs.declared.edit.Edit.{Edit}
 use Rattle.topo_base.specs.declared.edit.Edit.TheVariants.{AddIsoNode, MoveIsoNode, RemoveIsoNode, AddIsoEdge, RemoveIsoEdge, AddEdgeModFace, AddEdgeNewFaces, RemEdgeModFace, RemEdgeNewFace, ModEdgeSplit, NewEdgesSplit, ModEdgeHeal, NewEdgeHeal, AddLayer, CreateTopoGeom, AddElement, RemElement, DropFeature}
-use Rattle.topo_model.specs.AddEdge.{Division, coming, divided, one_new, two_new, face_at_start, face_at_end}
-use Rattle.topo_model.specs.Edits.{with_parts, add_edge, add_iso_node, move_iso_node, remove_iso_node, add_iso_edge, remove_iso_edge, add_layer, new_layer, layer_on, with_feature, create_topo_geom, with_element, add_element_on, add_element, rem_element, drop_feature, merged, remove_edge, split_edge, split_new, split_mod, heal_edges, heal_at, heal_new, heal_mod}
-use Rattle.topo_model.specs.Blocked.{is_blocked, is_blocked_for, is_line_blocked, goes_between}
-use Rattle.topo_model.specs.Direction.{first_direction}
-use Rattle.topo_model.specs.Drawing.{has_face, Drawing, Edge, nothing_drawn, node_id_of, edge_id_of, node_at, edge_at, is_isolated, layer_at, feature_at, is_end_of, has_only}
-use Rattle.topo_model.specs.Faces.{face_at}
-use Rattle.topo_model.specs.HalfEdge.{forward_of, backward_of, half_edges}
-use Rattle.topo_model.specs.IsoEdits.{with_edge, accepts_face, is_given_face, is_in_feature, is_isolated_edge, put_in_face}
-use Rattle.topo_model.specs.Legal.{keeps_limits, is_line_short, is_editor, is_entry, ids_within, journal_length, are_accepted}
-use Rattle.topo_model.specs.Line.{is_simple, on_line, first_vertex, last_vertex, is_line_end, is_inside_line}
-use Rattle.topo_model.specs.Outcome.{Outcome}
-use Rattle.topo_model.specs.Apply.{Decision, carried_out}
-use Rattle.topo_model.specs.Change.{EdgeIsCut, EdgeIsCutAnew, EdgesAreJoined, EdgesAreJoinedAnew}
-use Rattle.topo_model.specs.PlainLaw.{IsPlainInOrder}
-use Rattle.topo_model.specs.Relations.{node_type, edge_type, face_type, lists_feature}
-use Rattle.topo_model.specs.Replay.{drawing_of, after, after_all, edits_of}
-use Rattle.topo_model.specs.Ring.{ring_of, contains_half_edge}
-use Rattle.topo_model.specs.Subdivision.{rings_have_one_face}
-use Rattle.topo_model.proofs.Keeping.{Keeps, either, accepted, refused, refuses_else}
-use Rattle.topo_model.proofs.Members.{contains-found, ids_differ, contains-map, contains-mapped, contains-filtered}
-use Rattle.topo_model.proofs.PlainHistories.{plain_stays}
-use Rattle.topo_model.proofs.PlainParts.{parts_of, plain_of}
-use Rattle.topo_model.proofs.PlainStaying.{HasPlain, edge_more, passed}
-use Rattle.face_rings.specs.FaceBorder.{have_segments, HasRings}
+use Rattle.drawing.specs.AddEdge.{Division, coming, divided, one_new, two_new, face_at_start, face_at_end}
+use Rattle.drawing.specs.Edits.{with_parts, add_edge, add_iso_node, move_iso_node, remove_iso_node, add_iso_edge, remove_iso_edge, add_layer, new_layer, layer_on, with_feature, create_topo_geom, with_element, add_element_on, add_element, rem_element, drop_feature, merged, remove_edge, split_edge, split_new, split_mod, heal_edges, heal_at, heal_new, heal_mod}
+use Rattle.drawing.specs.Blocked.{is_blocked, is_blocked_for, is_line_blocked, goes_between}
+use Rattle.plane.specs.Direction.{first_direction}
+use Rattle.drawing.specs.Drawing.{has_face, Drawing, Edge, nothing_drawn, node_id_of, edge_id_of, node_at, edge_at, is_isolated, layer_at, feature_at, is_end_of, has_only}
+use Rattle.drawing.specs.Faces.{face_at}
+use Rattle.drawing.specs.HalfEdge.{forward_of, backward_of, half_edges}
+use Rattle.drawing.specs.IsoEdits.{with_edge, accepts_face, is_given_face, is_in_feature, is_isolated_edge, put_in_face}
+use Rattle.drawing.specs.Accepted.{keeps_limits, is_line_short}
+use Rattle.plane.specs.Line.{is_simple, on_line, first_vertex, last_vertex, is_line_end, is_inside_line}
+use Rattle.drawing.specs.Outcome.{Outcome}
+use Rattle.drawing.specs.Apply.{Decision, carried_out}
+use Rattle.drawing.specs.Change.{EdgeIsCut, EdgeIsCutAnew, EdgesAreJoined, EdgesAreJoinedAnew}
+use Rattle.drawing.specs.PlainInOrder.{IsPlainInOrder}
+use Rattle.drawing.specs.Relations.{node_type, edge_type, face_type, lists_feature}
+use Rattle.drawing.specs.Replay.{drawing_of, after, after_all, edits_of}
+use Rattle.drawing.specs.Ring.{ring_of, contains_half_edge}
+use Rattle.drawing.specs.Subdivision.{rings_have_one_face}
+use Rattle.drawing.proofs.Keeping.{Keeps, either, accepted, refused, refuses_else}
+use Rattle.drawing.proofs.Members.{contains-found, ids_differ, contains-map, contains-mapped, contains-filtered}
+use Rattle.edit_changes.proofs.PlainStays.{plain_stays}
+use Rattle.drawing.proofs.PlainParts.{parts_of, plain_of}
+use Rattle.edit_changes.proofs.PlainStaying.{HasPlain, edge_more, passed}
+use Rattle.drawing.specs.Vertices.{have_segments}
+use Rattle.face_rings.specs.FaceBorder.{HasRings}
 use Rattle.face_rings.proofs.FaceBorders.{has_plain_lines}
 use Rattle.face_rings.proofs.HalfLines.{HasPlainLines}
 use Rattle.face_rings.proofs.HalvesApart.{one_edge}
-use Rattle.face_rings.proofs.VerticesStay.{segments_stay}
+use Rattle.edit_changes.proofs.VerticesStay.{segments_stay}
 use Rattle.ring_laws.specs.Ringed.{IsRinged, RingsStay, LiesIn}
 use Rattle.ring_laws.specs.Parts.{IsDividedBy}
 use Rattle.ring_laws.proofs.DividedSides.{division_by, divided_rings}
@@ -53,23 +54,24 @@ use Rattle.topo_base.specs.declared.rows.FeatureRow.{FeatureRow}
 use Rattle.topo_base.specs.declared.rows.RelationRow.{RelationRow}
 use Rattle.topo_base.specs.declared.kind.Kind.{Kind}
 use Rattle.topo_base.specs.declared.edit.Pair.{Pair}
-use Rattle.topo_model.specs.Layers.{is_name_taken, same_kind, is_element_listed, row_for}
-use Rattle.topo_model.specs.RemoveEdge.{renamed, without_faces, have_same_features}
-use Rattle.topo_model.proofs.PlainChanges.{edges_filtered}
-use Rattle.topo_model.proofs.Ordering.{InOrder-filter, InOrder, InOrder-change, InOrder-push}
+use Rattle.drawing.specs.Layers.{is_name_taken, same_kind, is_element_listed, row_for}
+use Rattle.drawing.specs.RemoveEdge.{renamed, without_faces, have_same_features}
+use Rattle.drawing.proofs.PlainChanges.{edges_filtered}
+use Rattle.drawing.proofs.Ordering.{InOrder-filter, InOrder, InOrder-change, InOrder-push}
 use Rattle.ring_laws.proofs.MergedSides.{lessened, merged_with, merged_rings, merged_known, AreMerged, none_merged, one_merged, both_merged, one_renamed, both_renamed}
 use Rattle.topo_base.specs.declared.edit.Entry.{Entry}
-use Rattle.topo_model.specs.Step.{step}
-use Rattle.topo_model.specs.Relation.{SameCoordinates}
-use Rattle.topo_model.specs.Rows.{without_row, with_change}
-use Rattle.topo_model.specs.SplitEdge.{first_part, second_part}
-use Rattle.topo_model.specs.HealEdges.{is_closed, is_nothing, common_nodes, healed_node, joined_edge}
-use Rattle.topo_model.proofs.ListTests.{contains_here, contains_there, contains_cases, contains_none}
-use Rattle.topo_model.proofs.PlainSplits.{from_changed, from_both}
-use Rattle.topo_model.proofs.PointTests.{Decides-same_point}
+use Rattle.drawing.specs.Step.{step}
+use Rattle.plane.specs.Relation.{SameCoordinates}
+use Rattle.drawing.specs.Rows.{without_row, with_change}
+use Rattle.drawing.specs.SplitEdge.{first_part, second_part}
+use Rattle.drawing.specs.HealEdges.{is_closed, is_nothing, common_nodes, healed_node, joined_edge}
+use Rattle.plane.proofs.ListTests.{contains_here, contains_there, contains_cases, contains_none}
+use Rattle.drawing.proofs.PlainSplits.{from_changed, from_both}
+use Rattle.plane.proofs.PointTests.{Decides-same_point}
 use Rattle.ring_laws.proofs.SplitSides.{IsSplitInto, split_with, split_joined, split_known}
 use Rattle.ring_laws.proofs.HealedSides.{IsHealed, healed_with, healed_joined, healed_known}
-use Rattle.topo_model.specs.Plain.{IsPlain}
+use Rattle.drawing.specs.Plain.{IsPlain}
+use Rattle.edit_changes.proofs.Histories.{after_edits, in_histories}
 
 -- ---- what each edit keeps
 record AreRinged (T : Drawing) : Type 0 where
@@ -606,27 +608,11 @@ begun = record {
   nodes = refl;
 }
 
-all_keep : (S : Drawing) (es : List Edit) → list_all keeps_limits es ≡ true → IsRinged S → IsRinged (after_all S es)
-all_keep S [] each h = h
-all_keep S (e ∷ es) each h =
-    let both = and_parts (keeps_limits e) (list_all keeps_limits es) each in
-    all_keep (after S e) es both.1 (edit_keeps S e both.0 h)
-
--- the edits of a legal history keep the limits
-within_limits : (max_id : ℕ) (S : Drawing) (history : List Entry) → are_accepted max_id S history ≡ true → list_all keeps_limits (edits_of history) ≡ true
-within_limits max_id S [] k = refl
-within_limits max_id S (x ∷ xs) k =
-    let rest = and_parts (is_entry x && is_ok (step S x.edit) && ids_within max_id (after S x.edit)) (are_accepted max_id (after S x.edit) xs) k in
-    let some = and_parts (is_entry x && is_ok (step S x.edit)) (ids_within max_id (after S x.edit)) rest.0 in
-    let entry = and_parts (is_entry x) (is_ok (step S x.edit)) some.0 in
-    and_from (keeps_limits x.edit) (list_all keeps_limits (edits_of xs)) (and_parts (is_editor x.editor) (keeps_limits x.edit) entry.0).1 (within_limits max_id (after S x.edit) xs rest.1)
-
 pub rings_stay : RingsStay
 rings_stay = record {
   begins = begun;
   each_edit = edit_keeps;
   added = edge_added;
-  all_edits = λ es each. all_keep nothing_drawn es each begun;
-  each_history = λ max_id max_journal history legal.
-      all_keep nothing_drawn (edits_of history) (within_limits max_id nothing_drawn history (and_parts (are_accepted max_id nothing_drawn history) (nat_le (journal_length history) max_journal) legal).0) begun;
+  all_edits = λ es each. after_edits IsRinged edit_keeps nothing_drawn es each begun;
+  each_history = λ max_id. in_histories max_id IsRinged edit_keeps begun;
 }

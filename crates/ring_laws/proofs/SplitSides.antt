@@ -11,20 +11,20 @@ use Rattle.topo_base.specs.RationalPoint.{IsBetween}
 use Rattle.topo_base.specs.declared.rows.NodeRow.{NodeRow}
 use Rattle.topo_base.specs.declared.rows.RelationRow.{RelationRow}
 use Rattle.topo_base.specs.declared.rows.Counters.{Counters}
-use Rattle.topo_model.specs.Direction.{direction_to, first_direction}
-use Rattle.topo_model.specs.Drawing.{Drawing, Edge, node_id_of, has_face, is_end_of, is_isolated}
-use Rattle.topo_model.specs.HalfEdge.{HalfEdge, forward_of, backward_of, both_ways, half_edges}
-use Rattle.topo_model.specs.Line.{last_vertex, first_vertex, on_line, line_up_to, line_from}
-use Rattle.topo_model.specs.Orientation.{area, is_straight}
-use Rattle.topo_model.specs.PlainLaw.{IsPlainInOrder}
-use Rattle.topo_model.specs.Relation.{SameCoordinates}
-use Rattle.topo_model.specs.Segment.{is_between, on_segment}
-use Rattle.topo_model.specs.SplitEdge.{first_part, second_part}
-use Rattle.topo_model.specs.Subdivision.{is_node_known}
-use Rattle.topo_model.proofs.Members.{ids_within}
-use Rattle.topo_model.proofs.PlainSplits.{ComesFrom, new_node}
-use Rattle.topo_model.proofs.PointTests.{Decides-between, Decides-straight, Decides-same_point}
-use Rattle.topo_model.proofs.SegmentParts.{segment}
+use Rattle.plane.specs.Direction.{direction_to, first_direction}
+use Rattle.drawing.specs.Drawing.{Drawing, Edge, node_id_of, has_face, is_end_of, is_isolated}
+use Rattle.drawing.specs.HalfEdge.{HalfEdge, forward_of, backward_of, both_ways, half_edges}
+use Rattle.plane.specs.Line.{last_vertex, first_vertex, on_line, line_up_to, line_from}
+use Rattle.plane.specs.Orientation.{area, is_straight}
+use Rattle.drawing.specs.PlainInOrder.{IsPlainInOrder}
+use Rattle.plane.specs.Relation.{SameCoordinates}
+use Rattle.plane.specs.Segment.{is_between, on_segment}
+use Rattle.drawing.specs.SplitEdge.{first_part, second_part}
+use Rattle.drawing.specs.Subdivision.{is_node_known}
+use Rattle.drawing.proofs.Members.{ids_within}
+use Rattle.drawing.proofs.PlainSplits.{ComesFrom, new_node}
+use Rattle.plane.proofs.PointTests.{Decides-between, Decides-straight, Decides-same_point}
+use Rattle.plane.proofs.SegmentParts.{segment}
 use Rattle.face_rings.proofs.HalfLines.{HasPlainLines}
 use Rattle.face_rings.proofs.HalvesApart.{half_of, forward_there, backward_there, one_edge}
 use Rattle.face_rings.proofs.Ranks.{by_bool}

@@ -5,15 +5,15 @@ use Rattle.std.specs.List.{Contains}
 use Rattle.std.proofs.lemmas.Bool.{and_parts, and_from, eqb-true, eq-eqb, false≢true, false_from_ne_true, not-true}
 use Rattle.std.proofs.lemmas.List.{reverse-reverse}
 use Rattle.std.proofs.lemmas.List.Elements.{All-contains}
-use Rattle.topo_model.specs.Direction.{Direction, is_nearer, same_direction, IsNotZero, OneDirection}
-use Rattle.topo_model.specs.Drawing.{Drawing}
-use Rattle.topo_model.specs.HalfEdge.{HalfEdge, half_edges, twin, leaves, same_half_edge, dart_of}
-use Rattle.topo_model.specs.Star.{leaving, next_of}
-use Rattle.topo_model.specs.Subdivision.{rings_have_one_face}
-use Rattle.topo_model.proofs.BlockedTests.{all_from}
-use Rattle.topo_model.proofs.Directions.{nearer_total, same_out}
-use Rattle.topo_model.proofs.ListTests.{Decides-all}
-use Rattle.topo_model.proofs.Members.{contains-filter, contains-filtered}
+use Rattle.plane.specs.Direction.{Direction, is_nearer, same_direction, IsNotZero, OneDirection}
+use Rattle.drawing.specs.Drawing.{Drawing}
+use Rattle.drawing.specs.HalfEdge.{HalfEdge, half_edges, twin, leaves, same_half_edge, dart_of}
+use Rattle.drawing.specs.Star.{leaving, next_of}
+use Rattle.drawing.specs.Subdivision.{rings_have_one_face}
+use Rattle.plane.proofs.LineTests.{all_from}
+use Rattle.plane.proofs.Directions.{nearer_total, same_out}
+use Rattle.plane.proofs.ListTests.{Decides-all}
+use Rattle.drawing.proofs.Members.{contains-filter, contains-filtered}
 use Rattle.face_rings.proofs.FaceBorders.{half_by_dart}
 use Rattle.face_rings.proofs.HalfLines.{HasPlainLines}
 use Rattle.face_rings.proofs.HalvesApart.{twin_there, directions_differ}

@@ -6,17 +6,17 @@ use Rattle.std.proofs.lemmas.Bool.{false≢true, eqb-true, eq-eqb}
 use Rattle.std.proofs.lemmas.List.Elements.{Contains-push_cases, Contains-push, Contains-append_left}
 use Rattle.topo_base.specs.Point.{Point}
 use Rattle.topo_base.specs.declared.rows.NodeRow.{NodeRow}
-use Rattle.topo_model.specs.AddEdge.{coming}
-use Rattle.topo_model.specs.Direction.{Direction, is_nearer}
-use Rattle.topo_model.specs.Drawing.{Drawing, Edge, edge_id_of}
-use Rattle.topo_model.specs.Faces.{wedge_face, face_after}
-use Rattle.topo_model.specs.HalfEdge.{HalfEdge, forward_of, backward_of, both_ways, half_edges, leaves}
-use Rattle.topo_model.specs.IsoEdits.{with_edge}
-use Rattle.topo_model.specs.Star.{leaving, last_clockwise}
-use Rattle.topo_model.specs.Subdivision.{rings_have_one_face}
-use Rattle.topo_model.proofs.Directions.{nearer_self}
-use Rattle.topo_model.proofs.ListTests.{contains_here, contains_there, contains_cases, contains_none}
-use Rattle.topo_model.proofs.Members.{contains-filter, contains-filtered, ids_within}
+use Rattle.drawing.specs.AddEdge.{coming}
+use Rattle.plane.specs.Direction.{Direction, is_nearer}
+use Rattle.drawing.specs.Drawing.{Drawing, Edge, edge_id_of}
+use Rattle.drawing.specs.Faces.{wedge_face, face_after}
+use Rattle.drawing.specs.HalfEdge.{HalfEdge, forward_of, backward_of, both_ways, half_edges, leaves}
+use Rattle.drawing.specs.IsoEdits.{with_edge}
+use Rattle.drawing.specs.Star.{leaving, last_clockwise}
+use Rattle.drawing.specs.Subdivision.{rings_have_one_face}
+use Rattle.plane.proofs.Directions.{nearer_self}
+use Rattle.plane.proofs.ListTests.{contains_here, contains_there, contains_cases, contains_none}
+use Rattle.drawing.proofs.Members.{contains-filter, contains-filtered, ids_within}
 use Rattle.face_rings.proofs.HalfLines.{HasPlainLines}
 use Rattle.face_rings.proofs.HalvesApart.{half_of, forward_there, backward_there}
 use Rattle.ring_laws.proofs.Turning.{AreJoined, spread_of, spread_within, joined_same, joined_of, rings_of}

@@ -3,12 +3,12 @@ use Rattle.std.proofs.Common.{◌≡◌, ℕ, sym, ◌∙◌, ap, subst, ◌⊎�
 use Rattle.std.specs.Prelude.{flat_map}
 use Rattle.std.specs.List.{Contains, list_any}
 use Rattle.std.proofs.lemmas.Bool.{and_parts, and_from, or_left, or_right, eqb-true, eq-eqb, false≢true, false_from_ne_true, not-true}
-use Rattle.topo_model.specs.Drawing.{Drawing, Edge, edge_id_of, is_end_of, has_only}
-use Rattle.topo_model.specs.HalfEdge.{HalfEdge, forward_of, backward_of, both_ways, half_edges}
-use Rattle.topo_model.specs.IsoEdits.{is_isolated_edge}
-use Rattle.topo_model.specs.Rows.{without_row}
-use Rattle.topo_model.proofs.ListTests.{Decides-any}
-use Rattle.topo_model.proofs.Members.{contains-filter, contains-filtered}
+use Rattle.drawing.specs.Drawing.{Drawing, Edge, edge_id_of, is_end_of, has_only}
+use Rattle.drawing.specs.HalfEdge.{HalfEdge, forward_of, backward_of, both_ways, half_edges}
+use Rattle.drawing.specs.IsoEdits.{is_isolated_edge}
+use Rattle.drawing.specs.Rows.{without_row}
+use Rattle.plane.proofs.ListTests.{Decides-any}
+use Rattle.drawing.proofs.Members.{contains-filter, contains-filtered}
 use Rattle.face_rings.proofs.HalfLines.{HasPlainLines}
 use Rattle.face_rings.proofs.HalvesApart.{IsHalf, half_of, forward_there, backward_there, one_edge}
 use Rattle.face_rings.proofs.Ranks.{by_bool}

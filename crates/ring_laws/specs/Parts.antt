@@ -1,10 +1,10 @@
 -- A face that an edge divides: each ring lies in one of the parts.
 use Rattle.std.specs.Prelude.{◌≡◌, IsTrue}
 use Rattle.std.specs.List.{Contains}
-use Rattle.topo_model.specs.AddEdge.{Division, part_beside}
-use Rattle.topo_model.specs.Drawing.{Drawing, Edge}
-use Rattle.topo_model.specs.HalfEdge.{HalfEdge, forward_of, backward_of, half_edges}
-use Rattle.topo_model.specs.Ring.{ring_of, contains_half_edge}
+use Rattle.drawing.specs.AddEdge.{Division, part_beside}
+use Rattle.drawing.specs.Drawing.{Drawing, Edge}
+use Rattle.drawing.specs.HalfEdge.{HalfEdge, forward_of, backward_of, half_edges}
+use Rattle.drawing.specs.Ring.{ring_of, contains_half_edge}
 use Rattle.face_rings.specs.FaceBorder.{HasRings}
 
 -- the edge has the divided face on both sides, and the division is by its two rings

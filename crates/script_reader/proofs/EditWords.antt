@@ -7,9 +7,9 @@ use Rattle.topo_base.specs.Names.{is_name}
 use Rattle.topo_base.specs.ScriptLines.{ScriptLine}
 use Rattle.topo_base.specs.declared.named.NamedEdit.{NamedEdit}
 use Rattle.topo_base.specs.declared.named.NamedEdit.TheVariants.{AddIsoNode, MoveIsoNode, RemoveIsoNode, AddIsoEdge, RemoveIsoEdge, AddEdgeModFace, AddEdgeNewFaces, RemEdgeModFace, RemEdgeNewFace, ModEdgeSplit, NewEdgesSplit, ModEdgeHeal, NewEdgeHeal, AddLayer, CreateTopoGeom, AddElement, RemElement, DropFeature}
-use Rattle.topo_model.specs.InRange.{is_grid_point}
-use Rattle.topo_model.specs.NamedRange.{is_id_word, is_option_id_word, is_named_pair, is_new_line, is_named_edit}
-use Rattle.topo_model.specs.NamedWords.{named_words, names_words}
+use Rattle.drawing.specs.InRange.{is_grid_point}
+use Rattle.script_model.specs.NamedRange.{is_id_word, is_option_id_word, is_named_pair, is_new_line, is_named_edit}
+use Rattle.script_model.specs.NamedWords.{named_words, names_words}
 use Rattle.script_reader.specs.Reading.{AreNames, IsEdit, AreWordsOf}
 use Rattle.script_reader.proofs.IdWords.{id_not_equals, option_id_not_equals}
 

@@ -12,9 +12,9 @@ use Rattle.topo_base.specs.declared.named.IdWord.{IdWord}
 use Rattle.topo_base.specs.declared.named.IdWord.TheVariants.{Number, Bound}
 use Rattle.topo_io.specs.Decimal.{IsDecimal}
 use Rattle.topo_io.proofs.Decimals.{decimal_unique}
-use Rattle.topo_model.specs.InRange.{is_id}
-use Rattle.topo_model.specs.NamedRange.{is_id_word, is_option_id_word}
-use Rattle.topo_model.specs.NamedWords.{id_word, option_id_word}
+use Rattle.drawing.specs.InRange.{is_id}
+use Rattle.script_model.specs.NamedRange.{is_id_word, is_option_id_word}
+use Rattle.script_model.specs.NamedWords.{id_word, option_id_word}
 use Rattle.script_reader.specs.Reading.{Finds, IsIdWord, IsOptionIdWord, IsPoint}
 
 -- an id has 64 bits

@@ -3,8 +3,8 @@ use Rattle.std.proofs.Common.{◌≡◌, ℕ, ◌<◌, Bool, true, false, cond, 
 use Rattle.std.specs.List.{list_all}
 use Rattle.std.proofs.lemmas.Bool.{and_parts}
 use Rattle.std.proofs.lemmas.Bool.Decides.{Decides-eqb}
-use Rattle.topo_model.specs.Script.{pieces, onto, is_line_feed, begins_with_feed, without_returns, lines_of}
-use Rattle.topo_model.proofs.Pieces.{pieces_front}
+use Rattle.script_model.specs.Script.{pieces, onto, is_line_feed, begins_with_feed, without_returns, lines_of}
+use Rattle.script_model.proofs.Pieces.{pieces_front}
 use Rattle.script_reader.specs.Parting.{IsWhole, IsPart}
 
 pub not_true : (b : Bool) → IsTrue (not b) → b ≡ false

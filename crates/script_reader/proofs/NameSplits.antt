@@ -6,8 +6,8 @@ use Rattle.std.proofs.lemmas.Bool.{and_parts, and_from}
 use Rattle.std.proofs.lemmas.Bool.Decides.{Decides-eqb}
 use Rattle.std.proofs.lemmas.List.Folds.{list_all-append}
 use Rattle.topo_base.specs.Names.{is_letter, is_name_byte, is_name}
-use Rattle.topo_model.specs.Script.{pieces, onto}
-use Rattle.topo_model.proofs.Pieces.{pieces_front, pieces_last}
+use Rattle.script_model.specs.Script.{pieces, onto}
+use Rattle.script_model.proofs.Pieces.{pieces_front, pieces_last}
 use Rattle.script_reader.specs.Parting.{is_comma, IsWhole, IsPart}
 use Rattle.script_reader.specs.Reading.{AreNames}
 

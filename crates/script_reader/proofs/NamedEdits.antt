@@ -9,7 +9,7 @@ use Rattle.topo_base.specs.declared.named.IdWord.TheVariants.{Number, Bound}
 use Rattle.topo_base.specs.declared.named.NamedPair.{NamedPair}
 use Rattle.topo_base.specs.declared.named.NamedEdit.{NamedEdit}
 use Rattle.topo_base.specs.declared.named.NamedEdit.TheVariants.{AddIsoNode, MoveIsoNode, RemoveIsoNode, AddIsoEdge, RemoveIsoEdge, AddEdgeModFace, AddEdgeNewFaces, RemEdgeModFace, RemEdgeNewFace, ModEdgeSplit, NewEdgesSplit, ModEdgeHeal, NewEdgeHeal, AddLayer, CreateTopoGeom, AddElement, RemElement, DropFeature}
-use Rattle.topo_model.specs.Bindings.{no_names, id_of, with_one, with_two, with_three, with_given, with_pairs, pair_of, onto_pairs, pairs_of, resolve}
+use Rattle.script_model.specs.Bindings.{no_names, id_of, with_one, with_two, with_three, with_given, with_pairs, pair_of, onto_pairs, pairs_of, resolve}
 
 -- what an edit gives with no name bound is that edit in numbers. Here f makes an edit of ids, and g the
 -- edit with words that it comes from

@@ -7,7 +7,7 @@ use Rattle.std.specs.Map.{lookup, KeepsOthers, IsKeyTest, AreApart}
 use Rattle.std.specs.declared.alloc.Global.{Global}
 use Rattle.std.specs.declared.vec.Vec.{Vec}
 use Rattle.indexmap.specs.IndexMap.{IndexMap, UpdatesBy}
-use Rattle.topo_model.specs.Bindings.{with_name}
+use Rattle.script_model.specs.Bindings.{with_name}
 use Rattle.script_reader.specs.Bindings.{names_of, with_bytes}
 
 -- what stands at the bytes of a name

@@ -5,8 +5,8 @@ use Rattle.std.specs.List.{list_all}
 use Rattle.std.proofs.lemmas.Bool.{and_parts}
 use Rattle.std.proofs.lemmas.List.{drop_all}
 use Rattle.topo_base.specs.declared.named.NamedPair.{NamedPair}
-use Rattle.topo_model.specs.NamedRange.{is_named_pair}
-use Rattle.topo_model.specs.NamedWords.{named_pair_words}
+use Rattle.script_model.specs.NamedRange.{is_named_pair}
+use Rattle.script_model.specs.NamedWords.{named_pair_words}
 use Rattle.script_reader.specs.Reading.{IsPair, ArePairs}
 
 -- the words behind those of the first elements are those of the others

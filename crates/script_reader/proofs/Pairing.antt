@@ -3,7 +3,7 @@ use Rattle.std.proofs.Common.{◌≡◌, ℕ, zero, suc, ◌+◌, ◌<◌, List,
 use Rattle.std.proofs.lemmas.List.{take_more}
 use Rattle.topo_base.specs.declared.edit.Pair.{Pair}
 use Rattle.topo_base.specs.declared.named.NamedPair.{NamedPair}
-use Rattle.topo_model.specs.Bindings.{Names, pair_of, pairs_of, onto_pairs}
+use Rattle.script_model.specs.Bindings.{Names, pair_of, pairs_of, onto_pairs}
 
 onto_pairs-push : (x : Option Pair) (o more : Option (List Pair)) (ys : List Pair) (y : Pair) → ((zs : List Pair) → o ≡ Some zs → more ≡ Some (zs ++ y ∷ [])) → onto_pairs x o ≡ Some ys → onto_pairs x more ≡ Some (ys ++ y ∷ [])
 onto_pairs-push None o more ys y rest e = absurd cc

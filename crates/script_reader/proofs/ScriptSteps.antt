@@ -1,8 +1,8 @@
 -- One line more of a script.
 use Rattle.std.proofs.Common.{◌≡◌, ℕ, ◌+◌, false, cond, not, List, [], ◌∷◌, ◌++◌, refl, sym, ap, subst, ◌∙◌, arith, inr, append_assoc, ne_eqb}
 use Rattle.topo_base.specs.ScriptLines.{ScriptLine}
-use Rattle.topo_model.specs.Script.{is_comment, edit_lines, AreLines, IsGood, IsFirstBadLine}
-use Rattle.topo_model.specs.NamedRange.{is_script_line}
+use Rattle.script_model.specs.Script.{is_comment, edit_lines, AreLines, IsGood, IsFirstBadLine}
+use Rattle.script_model.specs.NamedRange.{is_script_line}
 use Rattle.script_reader.specs.Reading.{IsReading}
 use Rattle.script_reader.specs.declared.read.Reading.TheVariants.{Skipped, Edit}
 

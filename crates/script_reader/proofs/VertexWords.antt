@@ -4,11 +4,11 @@ use Rattle.std.specs.List.{list_all}
 use Rattle.std.proofs.lemmas.Bool.{and_parts}
 use Rattle.std.proofs.lemmas.List.{drop_all}
 use Rattle.topo_base.specs.Point.{Point}
-use Rattle.topo_model.specs.InRange.{is_grid_point}
-use Rattle.topo_model.specs.Legal.{is_line_short}
-use Rattle.topo_model.specs.NamedRange.{is_new_line}
-use Rattle.topo_model.specs.Words.{line_words}
-use Rattle.topo_model.proofs.WordsUnique.{point_in_range}
+use Rattle.drawing.specs.InRange.{is_grid_point}
+use Rattle.drawing.specs.Accepted.{is_line_short}
+use Rattle.script_model.specs.NamedRange.{is_new_line}
+use Rattle.script_model.specs.Words.{line_words}
+use Rattle.script_model.proofs.WordsUnique.{point_in_range}
 use Rattle.script_reader.specs.Reading.{IsPoint, AreVertices, IsNewLine}
 
 -- the words behind those of the first vertices are those of the others

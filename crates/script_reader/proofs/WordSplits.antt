@@ -1,8 +1,8 @@
 -- The words of a line, one after another.
 use Rattle.std.proofs.Common.{◌≡◌, ℕ, ◌<◌, true, false, not, List, [], ◌∷◌, length, take, drop, sym, ap, subst, ◌∙◌, arith}
 use Rattle.std.proofs.lemmas.List.{take_all, drop_all}
-use Rattle.topo_model.specs.Script.{is_blank, without_empty, words_of}
-use Rattle.topo_model.proofs.Pieces.{pieces_front, pieces_last}
+use Rattle.script_model.specs.Script.{is_blank, without_empty, words_of}
+use Rattle.script_model.proofs.Pieces.{pieces_front, pieces_last}
 use Rattle.script_reader.specs.Parting.{IsWhole, IsPart, BeginsWithWord}
 
 -- a blank isn't the front of a word

@@ -6,7 +6,7 @@ use Rattle.std.specs.declared.alloc.Global.{Global}
 use Rattle.std.specs.declared.vec.Vec.{Vec}
 use Rattle.topo_base.specs.declared.edit.Edit.{Edit}
 use Rattle.topo_base.specs.declared.named.NamedEdit.{NamedEdit}
-use Rattle.topo_model.specs.Bindings.{Names, resolve}
+use Rattle.script_model.specs.Bindings.{Names, resolve}
 use Rattle.script_reader.specs.declared.end.ResolveEnd.{ResolveEnd}
 use Rattle.script_reader.specs.declared.end.ResolveEnd.TheVariants.{Unbound, Memory}
 

@@ -1,6 +1,6 @@
 -- A text that is parted: what stands before the first byte that parts it, and behind it.
 use Rattle.std.specs.Prelude.{◌≡◌, ℕ, Bool, not, ◌==◌, IsTrue, List, [], ◌∷◌, ◌++◌}
-use Rattle.topo_model.specs.Script.{is_line_feed, is_blank, is_whole}
+use Rattle.script_model.specs.Script.{is_line_feed, is_blank, is_whole}
 use Rattle.script_reader.specs.declared.parting.Separator.{Separator}
 use Rattle.script_reader.specs.declared.parting.Separator.TheVariants.{LineFeed, Blank, Comma}
 

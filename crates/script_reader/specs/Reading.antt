@@ -8,11 +8,11 @@ use Rattle.topo_base.specs.ScriptLines.{ScriptLine}
 use Rattle.topo_base.specs.declared.named.IdWord.{IdWord}
 use Rattle.topo_base.specs.declared.named.NamedPair.{NamedPair}
 use Rattle.topo_base.specs.declared.named.NamedEdit.{NamedEdit}
-use Rattle.topo_model.specs.InRange.{is_grid_point}
-use Rattle.topo_model.specs.NamedRange.{is_id_word, is_option_id_word, is_named_pair, is_new_line, is_named_edit, is_script_line}
-use Rattle.topo_model.specs.NamedWords.{id_word, option_id_word, named_pair_words, named_words, names_words, script_words}
-use Rattle.topo_model.specs.Words.{point_words, line_words}
-use Rattle.topo_model.specs.Script.{IsLine, IsGood, is_skipped}
+use Rattle.drawing.specs.InRange.{is_grid_point}
+use Rattle.script_model.specs.NamedRange.{is_id_word, is_option_id_word, is_named_pair, is_new_line, is_named_edit, is_script_line}
+use Rattle.script_model.specs.NamedWords.{id_word, option_id_word, named_pair_words, named_words, names_words, script_words}
+use Rattle.script_model.specs.Words.{point_words, line_words}
+use Rattle.script_model.specs.Script.{IsLine, IsGood, is_skipped}
 use Rattle.script_reader.specs.declared.read.Reading.{Reading}
 use Rattle.script_reader.specs.declared.read.Reading.TheVariants.{Skipped, Edit, Bad}
 

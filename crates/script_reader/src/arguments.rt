@@ -1,6 +1,6 @@
 ghost use Rattle.std.specs.Prelude.{List, IfOk, MatchOption};
 ghost use Rattle.topo_base.specs.Point.{Point};
-ghost use Rattle.topo_model.specs.Script.{words_of};
+ghost use Rattle.script_model.specs.Script.{words_of};
 ghost use Rattle.script_reader.specs.Reading.{AreEndsAndLine, AreIdAndPoint, AreThreeIds, AreTwoIds};
 
 use crate::ids::id_word;

@@ -1,6 +1,6 @@
 ghost use Rattle.std.specs.Prelude.{◌≡◌, ◌+◌, ◌<◌, ◌≤◌, ℕ, length, map, IfOk, OnOk, OnErr};
 ghost use Rattle.indexmap.specs.IndexMap.{spare};
-ghost use Rattle.topo_model.specs.Bindings.{no_names, with_name, bound, element_id, id_of};
+ghost use Rattle.script_model.specs.Bindings.{no_names, with_name, bound, element_id, id_of};
 ghost use Rattle.script_reader.specs.Bindings.{names_of, with_bytes};
 
 use indexmap::IndexMap;

@@ -1,5 +1,5 @@
 ghost use Rattle.std.specs.Prelude.{◌∷◌, IfOk};
-ghost use Rattle.topo_model.specs.Script.{words_of};
+ghost use Rattle.script_model.specs.Script.{words_of};
 ghost use Rattle.script_reader.specs.Reading.{Finds, IsEdit};
 
 use crate::edge_edits::edge_edit;

@@ -1,5 +1,5 @@
 ghost use Rattle.std.specs.Prelude.{◌∷◌, codes, IfOk};
-ghost use Rattle.topo_model.specs.Script.{words_of};
+ghost use Rattle.script_model.specs.Script.{words_of};
 ghost use Rattle.script_reader.specs.EditKinds.{is_feature_edit};
 ghost use Rattle.script_reader.specs.Reading.{Finds, IsEditIn};
 

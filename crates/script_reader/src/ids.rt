@@ -1,6 +1,6 @@
 ghost use Rattle.std.specs.Prelude.{◌≡◌, IfOk, IsTrue};
 ghost use Rattle.std.specs.Fmt.{decimal};
-ghost use Rattle.topo_model.specs.InRange.{is_id};
+ghost use Rattle.drawing.specs.InRange.{is_id};
 ghost use Rattle.script_reader.specs.Reading.{Finds, IsIdWord, IsOptionIdWord};
 
 use crate::names::name_of;

@@ -1,5 +1,5 @@
 ghost use Rattle.std.specs.Prelude.{◌≡◌};
-ghost use Rattle.topo_model.specs.Words.{kind_word};
+ghost use Rattle.script_model.specs.Words.{kind_word};
 ghost use Rattle.script_reader.specs.Reading.{Finds};
 
 use topo_base::Kind;

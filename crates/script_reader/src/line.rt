@@ -1,6 +1,6 @@
 ghost use Rattle.std.specs.Prelude.{◌≡◌, None, IfOk, IfSome, IfNone};
 ghost use Rattle.topo_base.specs.ScriptLines.{in_numbers};
-ghost use Rattle.topo_model.specs.Bindings.{no_names, resolve};
+ghost use Rattle.script_model.specs.Bindings.{no_names, resolve};
 ghost use Rattle.script_reader.specs.Lines.{IsEditOf};
 
 use crate::{Bindings, ResolveEnd};

@@ -1,5 +1,5 @@
 ghost use Rattle.std.specs.Prelude.{◌≡◌, ◌<◌, ◌∷◌, ◌++◌, ℕ, List, length};
-ghost use Rattle.topo_model.specs.Script.{lines_of, without_returns, is_line_feed};
+ghost use Rattle.script_model.specs.Script.{lines_of, without_returns, is_line_feed};
 ghost use Rattle.script_reader.specs.Parting.{IsWhole};
 
 use crate::parting::{Separator, split};

@@ -1,6 +1,6 @@
 ghost use Rattle.std.specs.Prelude.{◌≡◌, ◌≤◌, ◌∷◌, ℕ, List, codes, length, IfOk, MatchOption};
-ghost use Rattle.topo_model.specs.Script.{IsScript, IsFirstBad, words_of};
-ghost use Rattle.topo_model.specs.NamedRange.{is_script_line};
+ghost use Rattle.script_model.specs.Script.{IsScript, IsFirstBad, words_of};
+ghost use Rattle.script_model.specs.NamedRange.{is_script_line};
 ghost use Rattle.script_reader.specs.Reading.{Finds, AreWordsOf, IsReading};
 
 use crate::ScriptLine;

@@ -1,5 +1,5 @@
 ghost use Rattle.std.specs.Prelude.{◌≡◌, Some, None, IfOk, IfErr, OnErr, IsErrOf};
-ghost use Rattle.topo_model.specs.Bindings.{id_of, pair_of, pairs_of, resolve};
+ghost use Rattle.script_model.specs.Bindings.{id_of, pair_of, pairs_of, resolve};
 ghost use Rattle.script_reader.specs.Bindings.{names_of, IsResolved};
 
 use crate::{Bindings, ResolveEnd};

@@ -1,5 +1,5 @@
 ghost use Rattle.std.specs.Prelude.{◌≡◌, [], ◌∷◌, ℕ, List, MatchOption};
-ghost use Rattle.topo_model.specs.Script.{words_of};
+ghost use Rattle.script_model.specs.Script.{words_of};
 ghost use Rattle.script_reader.specs.Parting.{BeginsWithWord};
 
 use crate::parting::{Separator, is_separator, split};

@@ -6,17 +6,17 @@ use Rattle.std.proofs.lemmas.Bool.{and_parts, eqb-true, false≢true}
 use Rattle.topo_base.specs.Point.{Point, same_point}
 use Rattle.topo_base.specs.declared.rows.NodeRow.{NodeRow}
 use Rattle.topo_base.specs.declared.rule.Rule.TheVariants.{SameNode, NotIsolated, NotInFace, LineEnds, LineNotSimple, LineBlocked}
-use Rattle.topo_model.specs.Blocked.{is_line_blocked, goes_between}
-use Rattle.topo_model.specs.Drawing.{Drawing, is_isolated}
-use Rattle.topo_model.specs.HalfEdge.{HalfEdge, forward_of, backward_of, half_edges, twin, leaves, same_half_edge, dart_of}
-use Rattle.topo_model.specs.Edits.{add_iso_edge}
-use Rattle.topo_model.specs.Line.{is_simple, last_vertex}
-use Rattle.topo_model.specs.Ring.{ring_of, contains_half_edge}
-use Rattle.topo_model.specs.Star.{next_of, or_twin, first_clockwise, leaving}
-use Rattle.topo_model.proofs.Crossings.{back}
-use Rattle.topo_model.proofs.Keeping.{Keeps, accepted, refused, refuses_else}
-use Rattle.topo_model.proofs.ListTests.{contains_here, contains_there, contains_cases, Decides-any}
-use Rattle.topo_model.proofs.PlainStaying.{passed}
+use Rattle.drawing.specs.Blocked.{is_line_blocked, goes_between}
+use Rattle.drawing.specs.Drawing.{Drawing, is_isolated}
+use Rattle.drawing.specs.HalfEdge.{HalfEdge, forward_of, backward_of, half_edges, twin, leaves, same_half_edge, dart_of}
+use Rattle.drawing.specs.Edits.{add_iso_edge}
+use Rattle.plane.specs.Line.{is_simple, last_vertex}
+use Rattle.drawing.specs.Ring.{ring_of, contains_half_edge}
+use Rattle.drawing.specs.Star.{next_of, or_twin, first_clockwise, leaving}
+use Rattle.plane.specs.Crossings.{back}
+use Rattle.drawing.proofs.Keeping.{Keeps, accepted, refused, refuses_else}
+use Rattle.plane.proofs.ListTests.{contains_here, contains_there, contains_cases, Decides-any}
+use Rattle.edit_changes.proofs.PlainStaying.{passed}
 use Rattle.face_rings.proofs.Ranks.{same_self}
 use Rattle.ring_laws.specs.Ringed.{IsRinged}
 use Rattle.ring_laws.proofs.Known.{none_leaves}

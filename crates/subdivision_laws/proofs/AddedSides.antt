@@ -6,16 +6,16 @@ use Rattle.std.proofs.lemmas.Bool.{both_ways}
 use Rattle.std.proofs.lemmas.Option.{slice_get-get_or}
 use Rattle.topo_base.specs.Point.{Point, same_point}
 use Rattle.topo_base.specs.declared.rows.NodeRow.{NodeRow}
-use Rattle.topo_model.specs.Drawing.{Drawing, Edge, is_isolated, is_end_of}
-use Rattle.topo_model.specs.HalfEdge.{forward_of, backward_of, half_edges}
-use Rattle.topo_model.specs.Line.{segments_of, first_vertex, last_vertex}
-use Rattle.topo_model.specs.Relation.{SameCoordinates}
-use Rattle.topo_model.specs.Segment.{Segment}
-use Rattle.topo_model.specs.Subdivision.{is_face_known}
-use Rattle.topo_model.proofs.Crossings.{over, back, crosses}
-use Rattle.topo_model.proofs.LineCuts.{last_ends}
-use Rattle.topo_model.proofs.PlainSplits.{one_point}
-use Rattle.topo_model.proofs.SimpleTests.{first_begins}
+use Rattle.drawing.specs.Drawing.{Drawing, Edge, is_isolated, is_end_of}
+use Rattle.drawing.specs.HalfEdge.{forward_of, backward_of, half_edges}
+use Rattle.plane.specs.Line.{segments_of, first_vertex, last_vertex}
+use Rattle.plane.specs.Relation.{SameCoordinates}
+use Rattle.plane.specs.Segment.{Segment}
+use Rattle.drawing.specs.Subdivision.{is_face_known}
+use Rattle.plane.specs.Crossings.{over, back, crosses}
+use Rattle.plane.proofs.LineCuts.{last_ends}
+use Rattle.drawing.proofs.PlainSplits.{one_point}
+use Rattle.plane.proofs.SimpleTests.{first_begins}
 use Rattle.face_rings.proofs.HalfLines.{HasPlainLines, forward_line}
 use Rattle.face_rings.proofs.HalvesApart.{forward_there, backward_there}
 use Rattle.ring_laws.proofs.Known.{isolated_if, put_twice}

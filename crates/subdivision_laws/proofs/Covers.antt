@@ -3,7 +3,7 @@ use Rattle.std.proofs.Common.{◌≡◌, ◌≢◌, ℕ, Some}
 use Rattle.std.specs.Prelude.{IsTrue}
 use Rattle.std.specs.List.{Contains}
 use Rattle.topo_base.specs.declared.rows.NodeRow.{NodeRow}
-use Rattle.topo_model.specs.Drawing.{Drawing, has_face}
+use Rattle.drawing.specs.Drawing.{Drawing, has_face}
 use Rattle.ring_laws.specs.Ringed.{IsRinged}
 use Rattle.parity_laws.specs.Shelling.{OneShell, NoShell}
 use Rattle.face_laws.specs.Walked.{steps_of}

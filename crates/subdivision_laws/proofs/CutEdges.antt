@@ -8,18 +8,18 @@ use Rattle.topo_base.specs.RationalPoint.{rational, IsAt}
 use Rattle.topo_base.specs.declared.rows.NodeRow.{NodeRow}
 use Rattle.topo_base.specs.declared.rows.RelationRow.{RelationRow}
 use Rattle.topo_base.specs.declared.rows.Counters.{Counters}
-use Rattle.topo_model.specs.Drawing.{Drawing, Edge}
-use Rattle.topo_model.specs.HalfEdge.{HalfEdge, forward_of, backward_of, half_edges}
-use Rattle.topo_model.specs.Line.{segments_of, line_up_to, line_from}
-use Rattle.topo_model.specs.RationalTests.{IsOn}
-use Rattle.topo_model.specs.Relation.{IsEnd}
-use Rattle.topo_model.specs.Segment.{Segment}
-use Rattle.topo_model.specs.SplitEdge.{first_part, second_part}
-use Rattle.topo_model.proofs.BlockedTests.{from_at}
-use Rattle.topo_model.proofs.Collinear.{at_point, on_round}
-use Rattle.topo_model.proofs.Crossings.{back}
-use Rattle.topo_model.proofs.PlainSplits.{new_node, one_point}
-use Rattle.topo_model.proofs.SegmentParts.{segment}
+use Rattle.drawing.specs.Drawing.{Drawing, Edge}
+use Rattle.drawing.specs.HalfEdge.{HalfEdge, forward_of, backward_of, half_edges}
+use Rattle.plane.specs.Line.{segments_of, line_up_to, line_from}
+use Rattle.plane.specs.RationalTests.{IsOn}
+use Rattle.plane.specs.Relation.{IsEnd}
+use Rattle.plane.specs.Segment.{Segment}
+use Rattle.drawing.specs.SplitEdge.{first_part, second_part}
+use Rattle.plane.proofs.LineTests.{from_at}
+use Rattle.plane.proofs.Collinear.{at_point, on_round}
+use Rattle.plane.specs.Crossings.{back}
+use Rattle.drawing.proofs.PlainSplits.{new_node, one_point}
+use Rattle.plane.proofs.SegmentParts.{segment}
 use Rattle.face_rings.specs.FaceBorder.{HasRings}
 use Rattle.face_rings.proofs.FaceBorders.{has_plain_lines}
 use Rattle.face_rings.proofs.HalfLines.{HasPlainLines}

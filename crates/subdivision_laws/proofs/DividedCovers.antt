@@ -5,10 +5,10 @@ use Rattle.std.specs.List.{Contains}
 use Rattle.std.proofs.lemmas.Bool.{eq-eqb, false≢true}
 use Rattle.topo_base.specs.Point.{Point}
 use Rattle.topo_base.specs.declared.rows.NodeRow.{NodeRow}
-use Rattle.topo_model.specs.AddEdge.{Division, part_at, divided_node, divided}
-use Rattle.topo_model.specs.Drawing.{Drawing, Edge}
-use Rattle.topo_model.proofs.ListTests.{some_same}
-use Rattle.topo_model.proofs.Members.{contains-mapped}
+use Rattle.drawing.specs.AddEdge.{Division, part_at, divided_node, divided}
+use Rattle.drawing.specs.Drawing.{Drawing, Edge}
+use Rattle.plane.proofs.ListTests.{some_same}
+use Rattle.drawing.proofs.Members.{contains-mapped}
 use Rattle.face_rings.proofs.HalfLines.{HasPlainLines}
 use Rattle.ring_laws.proofs.KnownStays.{is_listed}
 use Rattle.parity_laws.specs.Steps.{above}

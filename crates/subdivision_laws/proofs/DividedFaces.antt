@@ -5,17 +5,17 @@ use Rattle.std.specs.List.{Contains}
 use Rattle.std.proofs.lemmas.Bool.{both_ways, eqb-true, eqb-false, false_from_ne_true}
 use Rattle.std.proofs.lemmas.Option.{slice_get-get_or}
 use Rattle.topo_base.specs.Point.{Point}
-use Rattle.topo_model.specs.AddEdge.{Division, is_on_left, part_at, part_beside, divided_side, divided_edge, divided}
-use Rattle.topo_model.specs.Drawing.{Drawing, Edge}
-use Rattle.topo_model.specs.Faces.{xor}
-use Rattle.topo_model.specs.HalfEdge.{HalfEdge, forward_of, backward_of, both_ways as both_halves, half_edges, comes_before}
-use Rattle.topo_model.specs.Line.{segments_of, first_vertex, no_point}
-use Rattle.topo_model.specs.Ring.{ring_of, contains_half_edge, earlier_of, least_vertex}
-use Rattle.topo_model.specs.Segment.{Segment}
-use Rattle.topo_model.proofs.Crossings.{back}
-use Rattle.topo_model.proofs.ListTests.{contains_here, contains_there, contains_cases, contains_none}
-use Rattle.topo_model.proofs.Members.{contains-map}
-use Rattle.topo_model.proofs.SimpleTests.{first_begins}
+use Rattle.drawing.specs.AddEdge.{Division, is_on_left, part_at, part_beside, divided_side, divided_edge, divided}
+use Rattle.drawing.specs.Drawing.{Drawing, Edge}
+use Rattle.plane.specs.Parity.{xor}
+use Rattle.drawing.specs.HalfEdge.{HalfEdge, forward_of, backward_of, both_ways as both_halves, half_edges, comes_before}
+use Rattle.plane.specs.Line.{segments_of, first_vertex, no_point}
+use Rattle.drawing.specs.Ring.{ring_of, contains_half_edge, earlier_of, least_vertex}
+use Rattle.plane.specs.Segment.{Segment}
+use Rattle.plane.specs.Crossings.{back}
+use Rattle.plane.proofs.ListTests.{contains_here, contains_there, contains_cases, contains_none}
+use Rattle.drawing.proofs.Members.{contains-map}
+use Rattle.plane.proofs.SimpleTests.{first_begins}
 use Rattle.face_rings.proofs.FaceBorders.{has_plain_lines}
 use Rattle.face_rings.proofs.HalfLines.{HasPlainLines}
 use Rattle.face_rings.proofs.HalvesApart.{half_of, forward_there, backward_there}

@@ -5,22 +5,22 @@ use Rattle.std.proofs.lemmas.Bool.{and_parts, eqb-true, eqb-false, false≢true,
 use Rattle.topo_base.specs.Point.{Point, same_point}
 use Rattle.topo_base.specs.declared.rows.NodeRow.{NodeRow}
 use Rattle.topo_base.specs.declared.rule.Rule.TheVariants.{LineEnds, LineNotSimple, LineBlocked}
-use Rattle.topo_model.specs.AddEdge.{face_at_start, face_at_end}
-use Rattle.topo_model.specs.Edits.{add_edge}
-use Rattle.topo_model.specs.Blocked.{is_line_blocked, goes_between}
-use Rattle.topo_model.specs.Direction.{first_direction}
-use Rattle.topo_model.specs.Drawing.{Drawing}
-use Rattle.topo_model.specs.Faces.{face_after}
-use Rattle.topo_model.specs.HalfEdge.{forward_of, backward_of, half_edges, leaves}
-use Rattle.topo_model.specs.Line.{is_simple, last_vertex}
-use Rattle.topo_model.specs.Apply.{Decision, carried_out}
-use Rattle.topo_model.specs.PlainLaw.{IsPlainInOrder}
-use Rattle.topo_model.specs.Ring.{ring_of, contains_half_edge}
-use Rattle.topo_model.specs.Star.{last_clockwise}
-use Rattle.topo_model.specs.Subdivision.{face_id_of, rows_in_order}
-use Rattle.topo_model.proofs.Keeping.{Keeps, accepted, refused, refuses_else}
-use Rattle.topo_model.proofs.PlainParts.{parts_of, plain_of}
-use Rattle.topo_model.proofs.PlainStaying.{HasPlain, edge_more, passed}
+use Rattle.drawing.specs.AddEdge.{face_at_start, face_at_end}
+use Rattle.drawing.specs.Edits.{add_edge}
+use Rattle.drawing.specs.Blocked.{is_line_blocked, goes_between}
+use Rattle.plane.specs.Direction.{first_direction}
+use Rattle.drawing.specs.Drawing.{Drawing}
+use Rattle.drawing.specs.Faces.{face_after}
+use Rattle.drawing.specs.HalfEdge.{forward_of, backward_of, half_edges, leaves}
+use Rattle.plane.specs.Line.{is_simple, last_vertex}
+use Rattle.drawing.specs.Apply.{Decision, carried_out}
+use Rattle.drawing.specs.PlainInOrder.{IsPlainInOrder}
+use Rattle.drawing.specs.Ring.{ring_of, contains_half_edge}
+use Rattle.drawing.specs.Star.{last_clockwise}
+use Rattle.drawing.specs.Subdivision.{face_id_of, rows_in_order}
+use Rattle.drawing.proofs.Keeping.{Keeps, accepted, refused, refuses_else}
+use Rattle.drawing.proofs.PlainParts.{parts_of, plain_of}
+use Rattle.edit_changes.proofs.PlainStaying.{HasPlain, edge_more, passed}
 use Rattle.ring_laws.proofs.Known.{wedge_listed}
 use Rattle.ring_laws.proofs.RingsStaying.{rings_stay}
 use Rattle.parity_laws.proofs.Tests.{same_is}

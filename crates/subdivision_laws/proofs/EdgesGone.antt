@@ -4,14 +4,14 @@ use Rattle.std.specs.List.{Contains}
 use Rattle.std.proofs.lemmas.Bool.{both_ways, eqb-true, eq-eqb, eqb-false, not-true, false_from_ne_true}
 use Rattle.std.proofs.lemmas.List.Elements.{Contains-push_cases}
 use Rattle.topo_base.specs.declared.rule.Rule.TheVariants.{EdgeInFeature, FaceInFeature}
-use Rattle.topo_model.specs.Drawing.{Drawing, Edge, has_face}
-use Rattle.topo_model.specs.IsoEdits.{is_in_feature}
-use Rattle.topo_model.specs.Relations.{edge_type, face_type, is_among}
-use Rattle.topo_model.specs.RemoveEdge.{renamed, without_faces, have_same_features}
-use Rattle.topo_model.specs.Edits.{merged, remove_edge}
-use Rattle.topo_model.specs.Subdivision.{face_id_of, rows_in_order}
-use Rattle.topo_model.proofs.Keeping.{Keeps, accepted, refused, refuses_else}
-use Rattle.topo_model.proofs.Members.{contains-filtered}
+use Rattle.drawing.specs.Drawing.{Drawing, Edge, has_face}
+use Rattle.drawing.specs.IsoEdits.{is_in_feature}
+use Rattle.drawing.specs.Relations.{edge_type, face_type, is_among}
+use Rattle.drawing.specs.RemoveEdge.{renamed, without_faces, have_same_features}
+use Rattle.drawing.specs.Edits.{merged, remove_edge}
+use Rattle.drawing.specs.Subdivision.{face_id_of, rows_in_order}
+use Rattle.drawing.proofs.Keeping.{Keeps, accepted, refused, refuses_else}
+use Rattle.drawing.proofs.Members.{contains-filtered}
 use Rattle.ring_laws.proofs.Known.{any_in, any_out}
 use Rattle.ring_laws.proofs.KnownStays.{is_listed}
 use Rattle.ring_laws.proofs.MergedSides.{merged_with}

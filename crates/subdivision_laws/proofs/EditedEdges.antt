@@ -4,20 +4,20 @@ use Rattle.std.specs.List.{Contains, list_any}
 use Rattle.std.proofs.lemmas.Bool.{and_parts, eqb-true, false≢true, not-true, false_from_ne_true, eq-eqb, and_from, or_left, or_right}
 use Rattle.std.proofs.lemmas.List.Elements.{Contains-push_cases, Contains-push, Contains-append_left, Contains-append_right}
 use Rattle.topo_base.specs.Point.{Point, same_point}
-use Rattle.topo_model.specs.Drawing.{Drawing, Edge, edge_id_of, is_end_of, has_only}
-use Rattle.topo_model.specs.Line.{on_line, first_vertex, last_vertex, is_line_end, is_inside_line}
-use Rattle.topo_model.proofs.Members.{contains-found, ids_differ, contains-map, contains-mapped, contains-filtered}
+use Rattle.drawing.specs.Drawing.{Drawing, Edge, edge_id_of, is_end_of, has_only}
+use Rattle.plane.specs.Line.{on_line, first_vertex, last_vertex, is_line_end, is_inside_line}
+use Rattle.drawing.proofs.Members.{contains-found, ids_differ, contains-map, contains-mapped, contains-filtered}
 use Rattle.face_rings.proofs.HalfLines.{HasPlainLines}
 use Rattle.face_rings.proofs.HalvesApart.{one_edge}
 use Rattle.ring_laws.proofs.Known.{any_in}
 use Rattle.ring_laws.proofs.WithoutEdge.{was_edge, kept_edge}
-use Rattle.topo_model.specs.Relation.{SameCoordinates}
-use Rattle.topo_model.specs.Rows.{without_row, with_change}
-use Rattle.topo_model.specs.SplitEdge.{first_part, second_part}
-use Rattle.topo_model.specs.HealEdges.{is_closed, is_nothing, common_nodes, healed_node, joined_edge}
-use Rattle.topo_model.proofs.ListTests.{contains_here, contains_there, contains_cases, contains_none}
-use Rattle.topo_model.proofs.PlainSplits.{from_changed, from_both}
-use Rattle.topo_model.proofs.PointTests.{Decides-same_point}
+use Rattle.plane.specs.Relation.{SameCoordinates}
+use Rattle.drawing.specs.Rows.{without_row, with_change}
+use Rattle.drawing.specs.SplitEdge.{first_part, second_part}
+use Rattle.drawing.specs.HealEdges.{is_closed, is_nothing, common_nodes, healed_node, joined_edge}
+use Rattle.plane.proofs.ListTests.{contains_here, contains_there, contains_cases, contains_none}
+use Rattle.drawing.proofs.PlainSplits.{from_changed, from_both}
+use Rattle.plane.proofs.PointTests.{Decides-same_point}
 use Rattle.ring_laws.proofs.SplitSides.{IsSplitInto}
 use Rattle.subdivision_laws.proofs.Joint.{IsHealed}
 

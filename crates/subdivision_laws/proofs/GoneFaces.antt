@@ -1,8 +1,8 @@
 -- Without an edge faces have themselves on their left and one shell each, and points are in the faces they were in, by their new names.
 use Rattle.std.proofs.Common.{◌≡◌, ◌≢◌, ℕ, sym, ◌∙◌, ap, subst, ⊎_elim, Bool, List, eqb, IsTrue}
 use Rattle.topo_base.specs.Point.{Point}
-use Rattle.topo_model.specs.Drawing.{Drawing, Edge, has_face}
-use Rattle.topo_model.specs.Segment.{Segment}
+use Rattle.drawing.specs.Drawing.{Drawing, Edge, has_face}
+use Rattle.plane.specs.Segment.{Segment}
 use Rattle.parity_laws.specs.Steps.{above}
 use Rattle.parity_laws.specs.Rings.{In, those, of_face}
 use Rattle.parity_laws.specs.Shelling.{IsShellOf, OneShell}

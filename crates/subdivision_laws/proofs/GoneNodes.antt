@@ -5,18 +5,18 @@ use Rattle.std.proofs.lemmas.Bool.{and_parts}
 use Rattle.topo_base.specs.Point.{Point}
 use Rattle.topo_base.specs.RationalPoint.{rational}
 use Rattle.topo_base.specs.declared.rows.NodeRow.{NodeRow}
-use Rattle.topo_model.specs.Drawing.{Drawing, Edge, node_id_of, has_face, is_end_of, is_isolated}
-use Rattle.topo_model.specs.IsoEdits.{put_in_face}
-use Rattle.topo_model.specs.Line.{segments_of, first_vertex, last_vertex}
-use Rattle.topo_model.specs.RationalTests.{IsOn}
-use Rattle.topo_model.specs.Relation.{SameCoordinates}
-use Rattle.topo_model.specs.Segment.{Segment}
-use Rattle.topo_model.specs.Subdivision.{is_face_known}
-use Rattle.topo_model.proofs.Crossings.{back}
-use Rattle.topo_model.proofs.LineCuts.{last_ends}
-use Rattle.topo_model.proofs.Members.{contains-mapped}
-use Rattle.topo_model.proofs.PlainSplits.{one_point}
-use Rattle.topo_model.proofs.SimpleTests.{first_begins}
+use Rattle.drawing.specs.Drawing.{Drawing, Edge, node_id_of, has_face, is_end_of, is_isolated}
+use Rattle.drawing.specs.IsoEdits.{put_in_face}
+use Rattle.plane.specs.Line.{segments_of, first_vertex, last_vertex}
+use Rattle.plane.specs.RationalTests.{IsOn}
+use Rattle.plane.specs.Relation.{SameCoordinates}
+use Rattle.plane.specs.Segment.{Segment}
+use Rattle.drawing.specs.Subdivision.{is_face_known}
+use Rattle.plane.specs.Crossings.{back}
+use Rattle.plane.proofs.LineCuts.{last_ends}
+use Rattle.drawing.proofs.Members.{contains-mapped}
+use Rattle.drawing.proofs.PlainSplits.{one_point}
+use Rattle.plane.proofs.SimpleTests.{first_begins}
 use Rattle.face_rings.proofs.HalfLines.{HasPlainLines, forward_line}
 use Rattle.face_rings.proofs.HalvesApart.{half_of, line_of}
 use Rattle.ring_laws.proofs.Known.{none_ends}

@@ -5,14 +5,14 @@ use Rattle.std.specs.List.{Contains}
 use Rattle.std.proofs.lemmas.Bool.{eqb-true, eq-eqb}
 use Rattle.std.proofs.lemmas.Grind.{flat_map-append}
 use Rattle.std.proofs.lemmas.List.{append_assoc}
-use Rattle.topo_model.specs.Drawing.{Drawing, Edge, edge_id_of, has_face}
-use Rattle.topo_model.specs.HalfEdge.{HalfEdge, forward_of, backward_of, both_ways}
-use Rattle.topo_model.specs.Line.{segments_of}
-use Rattle.topo_model.specs.Rows.{without_row}
-use Rattle.topo_model.specs.Segment.{Segment}
-use Rattle.topo_model.proofs.Crossings.{back}
-use Rattle.topo_model.proofs.ListTests.{contains_cases, contains_none, contains_here, contains_there}
-use Rattle.topo_model.proofs.Members.{Pairwise, contains-mapped, ids_differ}
+use Rattle.drawing.specs.Drawing.{Drawing, Edge, edge_id_of, has_face}
+use Rattle.drawing.specs.HalfEdge.{HalfEdge, forward_of, backward_of, both_ways}
+use Rattle.plane.specs.Line.{segments_of}
+use Rattle.drawing.specs.Rows.{without_row}
+use Rattle.plane.specs.Segment.{Segment}
+use Rattle.plane.specs.Crossings.{back}
+use Rattle.plane.proofs.ListTests.{contains_cases, contains_none, contains_here, contains_there}
+use Rattle.drawing.proofs.Members.{Pairwise, contains-mapped, ids_differ}
 use Rattle.face_rings.proofs.FaceBorders.{has_plain_lines}
 use Rattle.face_rings.proofs.HalfLines.{HasPlainLines}
 use Rattle.face_rings.proofs.HalvesApart.{forward_there, backward_there, half_of}

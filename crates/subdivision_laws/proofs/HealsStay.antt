@@ -8,20 +8,20 @@ use Rattle.topo_base.specs.declared.rows.NodeRow.{NodeRow}
 use Rattle.topo_base.specs.declared.rows.RelationRow.{RelationRow}
 use Rattle.topo_base.specs.declared.rows.Counters.{Counters}
 use Rattle.topo_base.specs.declared.rule.Rule.TheVariants.{ClosedEdge, NotJoined, HealSplitsFeature, NodeInFeature}
-use Rattle.topo_model.specs.Drawing.{Drawing, Edge, node_id_of}
-use Rattle.topo_model.specs.HalfEdge.{HalfEdge, forward_of, backward_of, half_edges, twin}
-use Rattle.topo_model.specs.HealEdges.{joined_edge, is_closed, is_nothing, common_nodes, healed_node}
-use Rattle.topo_model.specs.Edits.{heal_edges, heal_at, heal_new, heal_mod}
-use Rattle.topo_model.specs.IsoEdits.{is_in_feature}
-use Rattle.topo_model.specs.Line.{segments_of, first_vertex, last_vertex, joined}
-use Rattle.topo_model.specs.RemoveEdge.{have_same_features}
-use Rattle.topo_model.specs.Relations.{node_type, edge_type}
-use Rattle.topo_model.specs.Segment.{Segment}
-use Rattle.topo_model.proofs.Crossings.{back}
-use Rattle.topo_model.specs.Change.{EdgesAreJoined, EdgesAreJoinedAnew}
-use Rattle.topo_model.proofs.Keeping.{Keeps, either, accepted, refused, refuses_else}
-use Rattle.topo_model.proofs.LineTurns.{first-reverse, last-reverse, segments-joined}
-use Rattle.topo_model.proofs.Members.{contains-filtered}
+use Rattle.drawing.specs.Drawing.{Drawing, Edge, node_id_of}
+use Rattle.drawing.specs.HalfEdge.{HalfEdge, forward_of, backward_of, half_edges, twin}
+use Rattle.drawing.specs.HealEdges.{joined_edge, is_closed, is_nothing, common_nodes, healed_node}
+use Rattle.drawing.specs.Edits.{heal_edges, heal_at, heal_new, heal_mod}
+use Rattle.drawing.specs.IsoEdits.{is_in_feature}
+use Rattle.plane.specs.Line.{segments_of, first_vertex, last_vertex, joined}
+use Rattle.drawing.specs.RemoveEdge.{have_same_features}
+use Rattle.drawing.specs.Relations.{node_type, edge_type}
+use Rattle.plane.specs.Segment.{Segment}
+use Rattle.plane.specs.Crossings.{back}
+use Rattle.drawing.specs.Change.{EdgesAreJoined, EdgesAreJoinedAnew}
+use Rattle.drawing.proofs.Keeping.{Keeps, either, accepted, refused, refuses_else}
+use Rattle.plane.proofs.LineTurns.{first-reverse, last-reverse, segments-joined}
+use Rattle.drawing.proofs.Members.{contains-filtered}
 use Rattle.face_rings.specs.FaceBorder.{HasRings}
 use Rattle.face_rings.proofs.FaceBorders.{has_plain_lines}
 use Rattle.face_rings.proofs.HalfLines.{HasPlainLines, begins}

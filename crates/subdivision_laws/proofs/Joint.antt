@@ -5,16 +5,16 @@ use Rattle.std.specs.List.{Contains}
 use Rattle.std.proofs.lemmas.Bool.{or_left, or_right, eqb-true, eq-eqb, false≢true}
 use Rattle.std.proofs.lemmas.List.{length-append, length-reverse, reverse-reverse}
 use Rattle.topo_base.specs.Point.{Point}
-use Rattle.topo_model.specs.Direction.{first_direction, is_nearer}
-use Rattle.topo_model.specs.Drawing.{Drawing, Edge, is_end_of}
-use Rattle.topo_model.specs.HalfEdge.{HalfEdge, forward_of, backward_of, both_ways, half_edges, twin}
-use Rattle.topo_model.specs.HealEdges.{away_from, joined_edge}
-use Rattle.topo_model.specs.Line.{first_vertex, last_vertex, without_first, joined}
-use Rattle.topo_model.specs.Star.{leaving}
-use Rattle.topo_model.proofs.Directions.{nearer_self}
-use Rattle.topo_model.proofs.LineTurns.{last-reverse}
-use Rattle.topo_model.proofs.PlainParts.{HasPoint}
-use Rattle.topo_model.proofs.PlainSplits.{one_point, id_point}
+use Rattle.plane.specs.Direction.{first_direction, is_nearer}
+use Rattle.drawing.specs.Drawing.{Drawing, Edge, is_end_of}
+use Rattle.drawing.specs.HalfEdge.{HalfEdge, forward_of, backward_of, both_ways, half_edges, twin}
+use Rattle.drawing.specs.HealEdges.{away_from, joined_edge}
+use Rattle.plane.specs.Line.{first_vertex, last_vertex, without_first, joined}
+use Rattle.drawing.specs.Star.{leaving}
+use Rattle.plane.proofs.Directions.{nearer_self}
+use Rattle.plane.proofs.LineTurns.{last-reverse}
+use Rattle.drawing.proofs.PlainParts.{HasPoint}
+use Rattle.drawing.proofs.PlainSplits.{one_point, id_point}
 use Rattle.face_rings.proofs.HalfLines.{HasPlainLines}
 use Rattle.face_rings.proofs.HalvesApart.{half_of, forward_there, backward_there, line_of, one_edge}
 use Rattle.face_rings.proofs.Ranks.{by_bool}

@@ -9,11 +9,11 @@ use Rattle.topo_base.specs.declared.rows.LayerRow.{LayerRow}
 use Rattle.topo_base.specs.declared.rows.RelationRow.{RelationRow}
 use Rattle.topo_base.specs.declared.rule.Rule.{Rule}
 use Rattle.topo_base.specs.declared.rule.Rule.TheVariants.{WrongKind, NameTaken, ElementListed, ElementNotListed, FeatureUsed}
-use Rattle.topo_model.specs.Drawing.{Drawing, layer_at}
-use Rattle.topo_model.specs.Layers.{is_name_taken, same_kind, is_element_listed, row_for}
-use Rattle.topo_model.specs.Edits.{add_layer, new_layer, layer_on, with_feature, create_topo_geom, with_element, add_element_on, add_element, rem_element, drop_feature}
-use Rattle.topo_model.specs.Relations.{lists_feature}
-use Rattle.topo_model.proofs.Keeping.{Keeps, accepted, refused, refuses_else}
+use Rattle.drawing.specs.Drawing.{Drawing, layer_at}
+use Rattle.drawing.specs.Layers.{is_name_taken, same_kind, is_element_listed, row_for}
+use Rattle.drawing.specs.Edits.{add_layer, new_layer, layer_on, with_feature, create_topo_geom, with_element, add_element_on, add_element, rem_element, drop_feature}
+use Rattle.drawing.specs.Relations.{lists_feature}
+use Rattle.drawing.proofs.Keeping.{Keeps, accepted, refused, refuses_else}
 use Rattle.face_laws.specs.Covered.{IsCovered}
 use Rattle.subdivision_laws.proofs.Covers.{KeepsCovers}
 

@@ -4,17 +4,17 @@ use Rattle.std.specs.List.{Contains}
 use Rattle.std.proofs.lemmas.Bool.{both_ways, eqb-true, eq-eqb, or_left, or_right}
 use Rattle.topo_base.specs.declared.rows.NodeRow.{NodeRow}
 use Rattle.topo_base.specs.declared.rule.Rule.TheVariants.{NotIsolated, EdgeInFeature}
-use Rattle.topo_model.specs.Drawing.{Drawing, Edge, edge_id_of, is_end_of, is_isolated}
-use Rattle.topo_model.specs.HalfEdge.{HalfEdge, forward_of, backward_of, half_edges}
-use Rattle.topo_model.specs.IsoEdits.{is_in_feature, is_isolated_edge, put_in_face}
-use Rattle.topo_model.specs.Edits.{remove_iso_edge}
-use Rattle.topo_model.specs.Line.{segments_of}
-use Rattle.topo_model.specs.Relations.{edge_type}
-use Rattle.topo_model.specs.Rows.{without_row}
-use Rattle.topo_model.specs.Segment.{Segment}
-use Rattle.topo_model.proofs.Keeping.{Keeps, accepted, refused, refuses_else}
-use Rattle.topo_model.proofs.ListTests.{some_same}
-use Rattle.topo_model.proofs.PlainStaying.{passed}
+use Rattle.drawing.specs.Drawing.{Drawing, Edge, edge_id_of, is_end_of, is_isolated}
+use Rattle.drawing.specs.HalfEdge.{HalfEdge, forward_of, backward_of, half_edges}
+use Rattle.drawing.specs.IsoEdits.{is_in_feature, is_isolated_edge, put_in_face}
+use Rattle.drawing.specs.Edits.{remove_iso_edge}
+use Rattle.plane.specs.Line.{segments_of}
+use Rattle.drawing.specs.Relations.{edge_type}
+use Rattle.drawing.specs.Rows.{without_row}
+use Rattle.plane.specs.Segment.{Segment}
+use Rattle.drawing.proofs.Keeping.{Keeps, accepted, refused, refuses_else}
+use Rattle.plane.proofs.ListTests.{some_same}
+use Rattle.edit_changes.proofs.PlainStaying.{passed}
 use Rattle.face_rings.proofs.HalfLines.{begins}
 use Rattle.face_rings.proofs.HalvesApart.{half_of, backward_there, one_edge}
 use Rattle.face_rings.proofs.Ranks.{by_bool}

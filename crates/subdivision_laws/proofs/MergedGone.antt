@@ -4,12 +4,12 @@ use Rattle.std.specs.List.{Contains}
 use Rattle.std.proofs.lemmas.Bool.{and_parts}
 use Rattle.topo_base.specs.declared.rows.Counters.{Counters}
 use Rattle.topo_base.specs.declared.rows.NodeRow.{NodeRow}
-use Rattle.topo_model.specs.Drawing.{Drawing, Edge, is_end_of, is_isolated}
-use Rattle.topo_model.specs.Line.{segments_of}
-use Rattle.topo_model.specs.RemoveEdge.{renamed, renamed_edge, renamed_node}
-use Rattle.topo_model.specs.Segment.{Segment}
-use Rattle.topo_model.proofs.ListTests.{some_same}
-use Rattle.topo_model.proofs.Members.{contains-mapped}
+use Rattle.drawing.specs.Drawing.{Drawing, Edge, is_end_of, is_isolated}
+use Rattle.plane.specs.Line.{segments_of}
+use Rattle.drawing.specs.RemoveEdge.{renamed, renamed_edge, renamed_node}
+use Rattle.plane.specs.Segment.{Segment}
+use Rattle.plane.proofs.ListTests.{some_same}
+use Rattle.drawing.proofs.Members.{contains-mapped}
 use Rattle.face_rings.proofs.HalfLines.{begins}
 use Rattle.ring_laws.specs.Ringed.{IsRinged}
 use Rattle.ring_laws.proofs.Known.{isolated_if, none_ends}

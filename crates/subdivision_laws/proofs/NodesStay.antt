@@ -7,16 +7,16 @@ use Rattle.std.proofs.lemmas.List.Elements.{Contains-push_cases}
 use Rattle.topo_base.specs.Point.{Point}
 use Rattle.topo_base.specs.declared.rows.NodeRow.{NodeRow}
 use Rattle.topo_base.specs.declared.rule.Rule.TheVariants.{NoFace, NotIsolated, PointBlocked, NotInFace, NodeInFeature}
-use Rattle.topo_model.specs.Blocked.{is_blocked, is_blocked_for}
-use Rattle.topo_model.specs.Drawing.{Drawing, is_isolated, node_id_of}
-use Rattle.topo_model.specs.Faces.{face_at}
-use Rattle.topo_model.specs.IsoEdits.{accepts_face, is_given_face, is_in_feature}
-use Rattle.topo_model.specs.Edits.{add_iso_node, move_iso_node, remove_iso_node}
-use Rattle.topo_model.specs.Relations.{node_type}
-use Rattle.topo_model.proofs.Keeping.{Keeps, accepted, refused, refuses_else}
-use Rattle.topo_model.proofs.ListTests.{some_same}
-use Rattle.topo_model.proofs.Members.{contains-mapped, contains-filtered, pairwise-same}
-use Rattle.topo_model.proofs.PlainStaying.{passed}
+use Rattle.drawing.specs.Blocked.{is_blocked, is_blocked_for}
+use Rattle.drawing.specs.Drawing.{Drawing, is_isolated, node_id_of}
+use Rattle.drawing.specs.Faces.{face_at}
+use Rattle.drawing.specs.IsoEdits.{accepts_face, is_given_face, is_in_feature}
+use Rattle.drawing.specs.Edits.{add_iso_node, move_iso_node, remove_iso_node}
+use Rattle.drawing.specs.Relations.{node_type}
+use Rattle.drawing.proofs.Keeping.{Keeps, accepted, refused, refuses_else}
+use Rattle.plane.proofs.ListTests.{some_same}
+use Rattle.drawing.proofs.Members.{contains-mapped, contains-filtered, pairwise-same}
+use Rattle.edit_changes.proofs.PlainStaying.{passed}
 use Rattle.face_rings.proofs.FaceBorders.{has_plain_lines}
 use Rattle.face_laws.specs.Covered.{IsPlaced, IsCovered}
 use Rattle.face_laws.proofs.Covering.{sides_of, point_placed}

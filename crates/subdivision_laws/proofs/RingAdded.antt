@@ -5,15 +5,15 @@ use Rattle.std.proofs.lemmas.Bool.{and_parts, both_ways, eqb-true, eqb-false}
 use Rattle.std.proofs.lemmas.List.Elements.{Contains-push, Contains-push_cases, Contains-append_cases}
 use Rattle.topo_base.specs.Point.{Point}
 use Rattle.topo_base.specs.declared.rows.NodeRow.{NodeRow}
-use Rattle.topo_model.specs.AddEdge.{Division, divided, keeps_left, one_new, two_new}
-use Rattle.topo_model.specs.Drawing.{Drawing, node_id_of, edge_id_of, layer_id_of, feature_id_of, has_face}
-use Rattle.topo_model.specs.HalfEdge.{HalfEdge, forward_of, backward_of, half_edges}
-use Rattle.topo_model.specs.Ring.{ring_of, contains_half_edge, is_shell}
-use Rattle.topo_model.specs.Segment.{Segment}
-use Rattle.topo_model.specs.Subdivision.{face_id_of, rows_in_order, ids_in_order}
-use Rattle.topo_model.proofs.Crossings.{back}
-use Rattle.topo_model.proofs.ListTests.{contains_cases, contains_none}
-use Rattle.topo_model.proofs.Members.{contains-filtered, ids_within}
+use Rattle.drawing.specs.AddEdge.{Division, divided, keeps_left, one_new, two_new}
+use Rattle.drawing.specs.Drawing.{Drawing, node_id_of, edge_id_of, layer_id_of, feature_id_of, has_face}
+use Rattle.drawing.specs.HalfEdge.{HalfEdge, forward_of, backward_of, half_edges}
+use Rattle.drawing.specs.Ring.{ring_of, contains_half_edge, is_shell}
+use Rattle.plane.specs.Segment.{Segment}
+use Rattle.drawing.specs.Subdivision.{face_id_of, rows_in_order, ids_in_order}
+use Rattle.plane.specs.Crossings.{back}
+use Rattle.plane.proofs.ListTests.{contains_cases, contains_none}
+use Rattle.drawing.proofs.Members.{contains-filtered, ids_within}
 use Rattle.face_rings.proofs.FaceBorders.{has_plain_lines}
 use Rattle.ring_laws.specs.Parts.{IsDividedBy}
 use Rattle.ring_laws.proofs.Known.{any_in, any_out}

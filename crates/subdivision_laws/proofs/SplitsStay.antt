@@ -8,22 +8,22 @@ use Rattle.topo_base.specs.declared.rows.NodeRow.{NodeRow}
 use Rattle.topo_base.specs.declared.rows.RelationRow.{RelationRow}
 use Rattle.topo_base.specs.declared.rows.Counters.{Counters}
 use Rattle.topo_base.specs.declared.rule.Rule.TheVariants.{NotOnEdge}
-use Rattle.topo_model.specs.Drawing.{Drawing, Edge}
-use Rattle.topo_model.specs.HalfEdge.{forward_of}
-use Rattle.topo_model.specs.Line.{segments_of, is_proper, is_inside_line, line_up_to, line_from}
-use Rattle.topo_model.specs.Relation.{SameCoordinates}
-use Rattle.topo_model.specs.Segment.{Segment}
-use Rattle.topo_model.specs.SplitEdge.{first_part, second_part}
-use Rattle.topo_model.specs.Edits.{split_edge, split_new, split_mod}
-use Rattle.topo_model.specs.Change.{EdgeIsCut, EdgeIsCutAnew}
-use Rattle.topo_model.proofs.Keeping.{Keeps, either, accepted, refused, refuses_else}
-use Rattle.topo_model.proofs.LineParts.{Cut, cut as cut_line}
-use Rattle.topo_model.proofs.PlainSplits.{new_node, one_point}
-use Rattle.topo_model.proofs.PlainStaying.{passed}
-use Rattle.topo_model.proofs.PointTests.{Decides-same_point}
-use Rattle.topo_model.proofs.Points.{point_straight, point_across, point_upward}
-use Rattle.topo_model.proofs.SegmentParts.{segment}
-use Rattle.topo_model.proofs.SimpleTests.{no_element}
+use Rattle.drawing.specs.Drawing.{Drawing, Edge}
+use Rattle.drawing.specs.HalfEdge.{forward_of}
+use Rattle.plane.specs.Line.{segments_of, is_proper, is_inside_line, line_up_to, line_from}
+use Rattle.plane.specs.Relation.{SameCoordinates}
+use Rattle.plane.specs.Segment.{Segment}
+use Rattle.drawing.specs.SplitEdge.{first_part, second_part}
+use Rattle.drawing.specs.Edits.{split_edge, split_new, split_mod}
+use Rattle.drawing.specs.Change.{EdgeIsCut, EdgeIsCutAnew}
+use Rattle.drawing.proofs.Keeping.{Keeps, either, accepted, refused, refuses_else}
+use Rattle.plane.proofs.LineParts.{Cut, cut as cut_line}
+use Rattle.drawing.proofs.PlainSplits.{new_node, one_point}
+use Rattle.edit_changes.proofs.PlainStaying.{passed}
+use Rattle.plane.proofs.PointTests.{Decides-same_point}
+use Rattle.plane.proofs.Points.{point_straight, point_across, point_upward}
+use Rattle.plane.proofs.SegmentParts.{segment}
+use Rattle.plane.proofs.SimpleTests.{no_element}
 use Rattle.face_rings.specs.FaceBorder.{HasRings}
 use Rattle.face_rings.proofs.FaceBorders.{has_plain_lines}
 use Rattle.face_rings.proofs.HalfLines.{HasPlainLines}

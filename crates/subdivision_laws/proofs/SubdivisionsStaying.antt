@@ -8,15 +8,15 @@ use Rattle.topo_base.specs.declared.edit.Edit.{Edit}
 use Rattle.topo_base.specs.declared.edit.Edit.TheVariants.{AddIsoNode, MoveIsoNode, RemoveIsoNode, AddIsoEdge, RemoveIsoEdge, AddEdgeModFace, AddEdgeNewFaces, RemEdgeModFace, RemEdgeNewFace, ModEdgeSplit, NewEdgesSplit, ModEdgeHeal, NewEdgeHeal, AddLayer, CreateTopoGeom, AddElement, RemElement, DropFeature}
 use Rattle.topo_base.specs.declared.edit.Entry.{Entry}
 use Rattle.topo_base.specs.declared.rows.NodeRow.{NodeRow}
-use Rattle.topo_model.specs.Drawing.{Drawing, Edge, nothing_drawn, node_at, edge_at, layer_at, feature_at, node_id_of, edge_id_of}
-use Rattle.topo_model.specs.Legal.{keeps_limits, is_line_short, is_editor, is_entry, ids_within, journal_length, are_accepted}
-use Rattle.topo_model.specs.Outcome.{Outcome}
-use Rattle.topo_model.specs.Replay.{drawing_of, after, after_all, edits_of}
-use Rattle.topo_model.specs.Step.{step}
-use Rattle.topo_model.specs.Subdivision.{IsSubdivision, ids_in_order}
-use Rattle.topo_model.proofs.Keeping.{Keeps}
-use Rattle.topo_model.proofs.ListTests.{contains_none}
-use Rattle.topo_model.proofs.Members.{contains-found}
+use Rattle.drawing.specs.Drawing.{Drawing, Edge, nothing_drawn, node_at, edge_at, layer_at, feature_at, node_id_of, edge_id_of}
+use Rattle.drawing.specs.Accepted.{keeps_limits, is_line_short}
+use Rattle.drawing.specs.Outcome.{Outcome}
+use Rattle.drawing.specs.Replay.{drawing_of, after, after_all, edits_of}
+use Rattle.drawing.specs.Step.{step}
+use Rattle.drawing.specs.Subdivision.{IsSubdivision, ids_in_order}
+use Rattle.drawing.proofs.Keeping.{Keeps}
+use Rattle.plane.proofs.ListTests.{contains_none}
+use Rattle.drawing.proofs.Members.{contains-found}
 use Rattle.ring_laws.specs.Ringed.{IsRinged}
 use Rattle.reference_laws.proofs.ReferencesStaying.{references_stay}
 use Rattle.face_laws.specs.Covered.{IsCovered}
@@ -33,6 +33,7 @@ use Rattle.subdivision_laws.proofs.RingAdded.{faces_in_order}
 use Rattle.subdivision_laws.proofs.SplitsStay.{split}
 use Rattle.subdivision_laws.proofs.LayersStay.{layer, feature, element, less_element, gone_feature}
 use Rattle.subdivision_laws.proofs.NodesStay.{node_more, node_elsewhere, node_less}
+use Rattle.edit_changes.proofs.Histories.{after_edits, in_histories}
 
 -- ---- each edit
 found : (S : Drawing) (n : ℕ) (row : NodeRow) → node_at S n ≡ Some row → Contains S.nodes row
@@ -101,27 +102,11 @@ begun = record {
     only_universe : (f : ℕ) → (0 == f || false) ≡ true → f ≡ 0
     only_universe f e = ⊎_elim (λ (h : (0 == f) ≡ true). sym (eqb-true 0 f h)) (λ (h : false ≡ true). cc) (or_cases (0 == f) false e)
 
-all_keep : (S : Drawing) (es : List Edit) → list_all keeps_limits es ≡ true → IsSubdivided S → IsSubdivided (after_all S es)
-all_keep S [] each h = h
-all_keep S (e ∷ es) each h =
-    let both = and_parts (keeps_limits e) (list_all keeps_limits es) each in
-    all_keep (after S e) es both.1 (edit_keeps S e both.0 h)
-
--- the edits of a legal history keep the limits
-within_limits : (max_id : ℕ) (S : Drawing) (history : List Entry) → are_accepted max_id S history ≡ true → list_all keeps_limits (edits_of history) ≡ true
-within_limits max_id S [] k = refl
-within_limits max_id S (x ∷ xs) k =
-    let rest = and_parts (is_entry x && is_ok (step S x.edit) && ids_within max_id (after S x.edit)) (are_accepted max_id (after S x.edit) xs) k in
-    let some = and_parts (is_entry x && is_ok (step S x.edit)) (ids_within max_id (after S x.edit)) rest.0 in
-    let entry = and_parts (is_entry x) (is_ok (step S x.edit)) some.0 in
-    and_from (keeps_limits x.edit) (list_all keeps_limits (edits_of xs)) (and_parts (is_editor x.editor) (keeps_limits x.edit) entry.0).1 (within_limits max_id (after S x.edit) xs rest.1)
-
 pub subdivisions_stay : SubdivisionsStay
 subdivisions_stay = record {
   begins = begun;
   each_edit = edit_keeps;
   subdivision = is_subdivision;
-  all_edits = λ es each. all_keep nothing_drawn es each begun;
-  each_history = λ max_id max_journal history legal.
-      all_keep nothing_drawn (edits_of history) (within_limits max_id nothing_drawn history (and_parts (are_accepted max_id nothing_drawn history) (nat_le (journal_length history) max_journal) legal).0) begun;
+  all_edits = λ es each. after_edits IsSubdivided edit_keeps nothing_drawn es each begun;
+  each_history = λ max_id. in_histories max_id IsSubdivided edit_keeps begun;
 }

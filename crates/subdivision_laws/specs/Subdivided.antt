@@ -3,10 +3,10 @@ use Rattle.std.specs.Prelude.{ℕ, IsTrue, List}
 use Rattle.std.specs.List.{list_all}
 use Rattle.topo_base.specs.declared.edit.Edit.{Edit}
 use Rattle.topo_base.specs.declared.edit.Entry.{Entry}
-use Rattle.topo_model.specs.Drawing.{Drawing, nothing_drawn}
-use Rattle.topo_model.specs.Legal.{is_legal, keeps_limits}
-use Rattle.topo_model.specs.Replay.{after, after_all, replay}
-use Rattle.topo_model.specs.Subdivision.{IsSubdivision}
+use Rattle.drawing.specs.Drawing.{Drawing, nothing_drawn}
+use Rattle.drawing.specs.Accepted.{is_accepted, keeps_limits}
+use Rattle.drawing.specs.Replay.{after, after_all, replay}
+use Rattle.drawing.specs.Subdivision.{IsSubdivision}
 use Rattle.reference_laws.specs.Referenced.{IsReferenced}
 use Rattle.face_laws.specs.Covered.{IsCovered}
 
@@ -21,6 +21,6 @@ pub record SubdivisionsStay : Type 0 where
   pub each_edit : (S : Drawing) (e : Edit) → IsTrue (keeps_limits e) → IsSubdivided S → IsSubdivided (after S e)
   -- it is a subdivision
   pub subdivision : (S : Drawing) → IsSubdivided S → IsSubdivision S
-  -- so the drawing after any such edits is one, and that of every legal history
+  -- so the drawing after any such edits is one, and that of every accepted history
   pub all_edits : (es : List Edit) → IsTrue (list_all keeps_limits es) → IsSubdivided (after_all nothing_drawn es)
-  pub each_history : (max_id max_journal : ℕ) (history : List Entry) → IsTrue (is_legal max_id max_journal history) → IsSubdivided (replay history)
+  pub each_history : (max_id : ℕ) (history : List Entry) → IsTrue (is_accepted max_id history) → IsSubdivided (replay history)

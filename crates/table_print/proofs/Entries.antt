@@ -2,7 +2,7 @@
 use Rattle.std.proofs.Common.{◌≡◌, ℕ, ◌+◌, ◌<◌, List, [], ◌∷◌, ◌++◌, length, take, get_or, refl, sym, ap, subst, ◌∙◌, arith, append_assoc, append-nil, length-take}
 use Rattle.std.proofs.lemmas.List.{take_more}
 use Rattle.topo_base.specs.declared.edit.Entry.{Entry}
-use Rattle.topo_model.specs.Texts.{entry_text, entries_text}
+use Rattle.script_model.specs.Texts.{entry_text, entries_text}
 
 entries_text-append : (n : ℕ) (xs ys : List Entry) → entries_text n (xs ++ ys) ≡ entries_text n xs ++ entries_text (n + length xs) ys
 entries_text-append n [] ys = let same : n ≡ n + 0 = omega arith in ap (λ k. entries_text k ys) same

@@ -1,7 +1,7 @@
 -- The line of an edge, appended part by part.
 use Rattle.std.proofs.Common.{◌≡◌, ℕ, List, [], ◌∷◌, ◌++◌, sym, ap, ◌∙◌, append_assoc}
-use Rattle.topo_model.specs.Words.{line_of, spaced}
-use Rattle.topo_model.proofs.Lines.{line_of-spaced, spaced-append}
+use Rattle.script_model.specs.Words.{line_of, spaced}
+use Rattle.script_model.proofs.Lines.{line_of-spaced, spaced-append}
 
 regroup : (text w a b c d n : List ℕ) → (((((text ++ w) ++ a) ++ b) ++ c) ++ d) ++ n ≡ text ++ ((w ++ ((a ++ (b ++ c)) ++ d)) ++ n)
 regroup text w a b c d n = simp append_assoc

@@ -1,11 +1,11 @@
 // The lines of the features, each with the elements to which it descends.
 ghost use Rattle.std.specs.Prelude.{◌≡◌, ◌<◌, ◌++◌, ◌∷◌, [], OnOk, IfOk, codes, flat_map, length};
 ghost use Rattle.std.specs.Fmt.{decimal};
-ghost use Rattle.topo_model.specs.Drawing.{layer_at};
-ghost use Rattle.topo_model.specs.Places.{rows_of, at_slot};
-ghost use Rattle.topo_model.specs.Tables.{drawn};
-ghost use Rattle.topo_model.specs.Texts.{descent_text, features_text as text_of_features, number_words, type_of_layer as type_in};
-ghost use Rattle.topo_model.specs.Words.{line_of, spaced};
+ghost use Rattle.drawing.specs.Drawing.{layer_at};
+ghost use Rattle.drawing.specs.Places.{rows_of, at_slot};
+ghost use Rattle.drawing.specs.Tables.{drawn};
+ghost use Rattle.script_model.specs.Texts.{descent_text, features_text as text_of_features, number_words, type_of_layer as type_in};
+ghost use Rattle.script_model.specs.Words.{line_of, spaced};
 
 use edit_words::push_count_word;
 use layer_tree::numbers_of;

@@ -1,6 +1,6 @@
 // The lines of a history.
 ghost use Rattle.std.specs.Prelude.{◌≡◌, ◌+◌, ◌<◌, ◌^◌, ◌++◌, length, OnOk, IfOk};
-ghost use Rattle.topo_model.specs.Texts.{entry_text, entries_text, history_text as text_of_history};
+ghost use Rattle.script_model.specs.Texts.{entry_text, entries_text, history_text as text_of_history};
 
 use edit_words::{edit_text, push_count_word, push_word};
 use std::alloc::Global;

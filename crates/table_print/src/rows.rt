@@ -1,9 +1,9 @@
 // The lines of the tables.
 ghost use Rattle.std.specs.Prelude.{◌≡◌, ◌++◌, ◌∷◌, [], ℕ, List, OnOk, IfOk, flat_map, length};
 ghost use Rattle.std.specs.Fmt.{decimal};
-ghost use Rattle.topo_model.specs.Places.{rows_of, at_slot};
-ghost use Rattle.topo_model.specs.Texts.{next_text, node_text, edge_text, face_text, layer_text, feature_text, relation_text, box_words, rows_text};
-ghost use Rattle.topo_model.specs.Words.{spaced, dart_word};
+ghost use Rattle.drawing.specs.Places.{rows_of, at_slot};
+ghost use Rattle.script_model.specs.Texts.{next_text, node_text, edge_text, face_text, layer_text, feature_text, relation_text, box_words, rows_text};
+ghost use Rattle.script_model.specs.Words.{spaced, dart_word};
 
 use edit_words::{
     push_count_word, push_dart_word, push_line, push_number_word, push_option_word, push_point,

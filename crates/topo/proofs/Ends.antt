@@ -13,9 +13,9 @@ use Rattle.topo_base.specs.declared.answer.Answer.TheVariants.{Memory}
 use Rattle.topo_io.specs.Causes.{Rose}
 use Rattle.topo_io.specs.Sinks.{IsFront, AppendsFront}
 use Rattle.topo_io.proofs.Written.{appended_more, front_more, front_whole}
-use Rattle.topo_model.specs.Answers.{Bounds}
-use Rattle.topo_model.specs.Replay.{replay}
-use Rattle.topo_model.specs.Texts.{reply_text, replies_text, tables_text}
+use Rattle.history_model.specs.Answers.{Bounds}
+use Rattle.drawing.specs.Replay.{replay}
+use Rattle.script_model.specs.Texts.{reply_text, replies_text, tables_text}
 use Rattle.topo.specs.Views.{SinkView}
 use Rattle.topo.specs.Output.{Prints, printed, print_cut, IsCutBy, due, all_but_last}
 use Rattle.topo.specs.Run.{Standing, edit_at, grown, standing_after, standing_behind, AreAnswered, AreTried, is_disk_fault, has_fault, faults_of, faults_in, RoseBy}

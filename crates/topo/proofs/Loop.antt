@@ -10,7 +10,7 @@ use Rattle.topo_base.specs.declared.answer.Answer.{Answer}
 use Rattle.topo_io.specs.Causes.{Rose}
 use Rattle.topo_io.specs.Sinks.{AppendsFront}
 use Rattle.topo_io.proofs.Written.{appended_more, appended_none}
-use Rattle.topo_model.specs.Texts.{reply_text, replies_text}
+use Rattle.script_model.specs.Texts.{reply_text, replies_text}
 use Rattle.topo.specs.declared.run.Stop.{Stop}
 use Rattle.topo.specs.declared.run.Stop.TheVariants.{NoMemory, NoText, Fault}
 use Rattle.topo.specs.Views.{SinkView}

@@ -1,12 +1,12 @@
 -- Bytes that stand for a history have no bad gate, and stand for no other history.
 use Rattle.std.proofs.Common.{◌≡◌, ◌≢◌, ◌⊎◌, inl, inr, ℕ, ◌+◌, List, [], ◌∷◌, ◌++◌, length, drop, IsTrue, refl, sym, ap, subst, ◌∙◌}
 use Rattle.topo_base.specs.declared.edit.Entry.{Entry}
-use Rattle.topo_model.specs.Answers.{Bounds}
-use Rattle.topo_model.specs.Drawing.{Drawing, nothing_drawn}
-use Rattle.topo_model.specs.Journal.{IsFramed, next_gate, AreEntries, IsBadAfter, IsClosed, IsHeaded, StandsFor, IsBadAt}
-use Rattle.topo_model.specs.Replay.{after}
-use Rattle.topo_model.specs.Spelling.{number_bytes, entry_bytes}
-use Rattle.topo_model.proofs.Spellings.{entry_front}
+use Rattle.history_model.specs.Answers.{Bounds}
+use Rattle.drawing.specs.Drawing.{Drawing, nothing_drawn}
+use Rattle.history_model.specs.Journal.{IsFramed, next_gate, AreEntries, IsBadAfter, IsClosed, IsHeaded, StandsFor, IsBadAt}
+use Rattle.drawing.specs.Replay.{after}
+use Rattle.history_model.specs.Spelling.{number_bytes, entry_bytes}
+use Rattle.history_model.proofs.Spellings.{entry_front}
 use Rattle.topo_recover.proofs.Endings.{yet_not_bad}
 
 -- what stands behind an open gate is one entry, and then one rest

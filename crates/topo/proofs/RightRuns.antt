@@ -10,18 +10,19 @@ use Rattle.topo_base.specs.declared.edit.Edit.{Edit}
 use Rattle.topo_base.specs.declared.edit.Entry.{Entry}
 use Rattle.topo_base.specs.declared.answer.Answer.{Answer}
 use Rattle.topo_base.specs.declared.answer.Answer.TheVariants.{Done, Refused, Unbound, Stale, DiskFault, Memory}
-use Rattle.topo_model.specs.Drawing.{Drawing, nothing_drawn}
-use Rattle.topo_model.specs.Outcome.{Accepted, Outcome}
-use Rattle.topo_model.specs.Step.{step}
-use Rattle.topo_model.specs.Replay.{replay, after, drawing_of}
-use Rattle.topo_model.specs.Legal.{is_legal, is_entry, ids_within, journal_length, keeps_limits}
-use Rattle.topo_model.specs.Answers.{Bounds, IsRight, IsRuleThere, by_step, ids_spent, history_full, IsAcceptedWith}
-use Rattle.topo_model.specs.Bindings.{Names, no_names, bound, ids_of, resolve}
-use Rattle.topo_model.specs.CoreLaw.{entry_of}
-use Rattle.topo_model.specs.NamedRange.{is_script_line}
-use Rattle.topo_model.specs.Run.{AreRight, entries_of, later_front, is_done}
+use Rattle.drawing.specs.Drawing.{Drawing, nothing_drawn}
+use Rattle.drawing.specs.Outcome.{Accepted, Outcome}
+use Rattle.drawing.specs.Step.{step}
+use Rattle.drawing.specs.Replay.{replay, after, drawing_of}
+use Rattle.history_model.specs.Legal.{is_legal, journal_length}
+use Rattle.drawing.specs.Accepted.{is_entry, ids_within, keeps_limits}
+use Rattle.history_model.specs.Answers.{Bounds, IsRight, IsRuleThere, by_step, ids_spent, history_full, IsAcceptedWith}
+use Rattle.script_model.specs.Bindings.{Names, no_names, bound, ids_of, resolve}
+use Rattle.history_model.specs.CoreLaw.{entry_of}
+use Rattle.script_model.specs.NamedRange.{is_script_line}
+use Rattle.history_model.specs.Run.{AreRight, entries_of, later_front, is_done}
 use Rattle.topo_model.specs.ScriptRun.{onto_edits, edits_given, onto_answers, answers_given}
-use Rattle.topo_model.proofs.CoreRunning.{legal-push}
+use Rattle.history_model.proofs.CoreRunning.{legal-push}
 use Rattle.topo_model.proofs.Resolving.{edit_limits, good_edit}
 use Rattle.topo_desk.specs.Verdict.{verdict, verdict_of, IsTried, history_after}
 use Rattle.topo.specs.Run.{Standing, opening, edit_at, entry, IsEditTried, IsLineTried, grown, standing_after, standing_behind, AreTried, IsRightRun}

@@ -7,11 +7,11 @@ use Rattle.topo_base.specs.declared.edit.Entry.{Entry}
 use Rattle.topo_base.specs.declared.answer.Answer.{Answer}
 use Rattle.script_reader.specs.Bindings.{names_of}
 use Rattle.topo_journal.specs.Kept.{Each}
-use Rattle.topo_model.specs.Answers.{Bounds}
-use Rattle.topo_model.specs.Bindings.{Names}
-use Rattle.topo_model.specs.Legal.{is_legal}
-use Rattle.topo_model.specs.NamedRange.{is_script_line}
-use Rattle.topo_model.specs.Run.{is_done}
+use Rattle.history_model.specs.Answers.{Bounds}
+use Rattle.script_model.specs.Bindings.{Names}
+use Rattle.history_model.specs.Legal.{is_legal}
+use Rattle.script_model.specs.NamedRange.{is_script_line}
+use Rattle.history_model.specs.Run.{is_done}
 use Rattle.topo_desk.specs.Left.{StandsOrDoubts}
 use Rattle.topo.specs.Output.{due}
 use Rattle.topo.specs.Run.{Standing, opening, standing_behind, AreAnswered, AreTried, has_fault, faults_in, RoseBy, IsRightRun, status_of}
@@ -19,7 +19,7 @@ use Rattle.topo.specs.Running.{Running, standing_of, IsBegun, EndsRun, ends_whol
 use Rattle.topo_base.specs.declared.limits.Limits.{Limits}
 use Rattle.topo_desk.specs.Boarded.{bounds_of}
 use Rattle.topo_io.specs.Causes.{Rose}
-use Rattle.topo_model.specs.Journal.{IsBadAt}
+use Rattle.history_model.specs.Journal.{IsBadAt}
 use Rattle.topo_recover.specs.declared.end.RecoverEnd.{RecoverEnd}
 use Rattle.topo_recover.specs.declared.end.RecoverEnd.TheVariants.{NoJournal, DiskFault, Memory}
 use Rattle.topo.specs.Endings.{standard, IsLeftBehind, RunsScript, ran_whole, ran_cut, EndsUnread, Unrecovered, no_journal, disk_fault, not_recovered}

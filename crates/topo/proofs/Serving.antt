@@ -7,9 +7,9 @@ use Rattle.topo_base.specs.ScriptLines.{ScriptLine}
 use Rattle.topo_base.specs.declared.edit.Entry.{Entry}
 use Rattle.topo_base.specs.declared.answer.Answer.{Answer}
 use Rattle.script_reader.specs.Bindings.{names_of}
-use Rattle.topo_model.specs.Answers.{Bounds}
-use Rattle.topo_model.specs.Bindings.{Names, bound, ids_of}
-use Rattle.topo_model.specs.Run.{is_done}
+use Rattle.history_model.specs.Answers.{Bounds}
+use Rattle.script_model.specs.Bindings.{Names, bound, ids_of}
+use Rattle.history_model.specs.Run.{is_done}
 use Rattle.topo.specs.Run.{Standing, edit_at, grown, IsLineTried, standing_after, standing_behind, AreAnswered, is_disk_fault, has_fault, faults_of, faults_in, RoseBy}
 use Rattle.topo.specs.Running.{Running, standing_of, IsServed, IsBound, AreServed, AreBound}
 

@@ -3,11 +3,12 @@ use Rattle.std.proofs.Common.{ℕ, zero, suc, List, [], ◌∷◌, ◌&&◌, nat
 use Rattle.std.specs.List.{list_all}
 use Rattle.std.proofs.lemmas.Bool.{and_parts, and_from}
 use Rattle.topo_base.specs.declared.edit.Entry.{Entry}
-use Rattle.topo_model.specs.Answers.{Bounds}
-use Rattle.topo_model.specs.Drawing.{Drawing, nothing_drawn}
-use Rattle.topo_model.specs.Legal.{are_accepted, ids_within, is_editor, is_entry, is_legal, journal_length, keeps_limits}
-use Rattle.topo_model.specs.Replay.{after, edits_of, replay}
-use Rattle.topo_model.specs.Step.{step}
+use Rattle.history_model.specs.Answers.{Bounds}
+use Rattle.drawing.specs.Drawing.{Drawing, nothing_drawn}
+use Rattle.drawing.specs.Accepted.{are_accepted, ids_within, is_editor, is_entry, keeps_limits}
+use Rattle.history_model.specs.Legal.{is_legal, journal_length}
+use Rattle.drawing.specs.Replay.{after, edits_of, replay}
+use Rattle.drawing.specs.Step.{step}
 use Rattle.reference_laws.proofs.ReferencesStaying.{references_stay}
 use Rattle.subdivision_laws.proofs.SubdivisionsStaying.{subdivisions_stay}
 use Rattle.topo.specs.Run.{IsSoundHistory}

@@ -6,12 +6,12 @@ use Rattle.std.proofs.lemmas.List.Sums.{sum_by-cons}
 use Rattle.topo_base.specs.ScriptLines.{ScriptLine}
 use Rattle.topo_base.specs.declared.edit.Entry.{Entry}
 use Rattle.topo_base.specs.declared.answer.Answer.{Answer}
-use Rattle.topo_model.specs.NamedRange.{is_script_line}
+use Rattle.script_model.specs.NamedRange.{is_script_line}
 use Rattle.topo_io.specs.Causes.{Rose}
-use Rattle.topo_model.specs.Journal.{StandsFor, IsBadAt}
-use Rattle.topo_model.specs.Run.{is_done}
-use Rattle.topo_model.specs.Script.{IsScript, IsFirstBad, lines_of, edit_lines}
-use Rattle.topo_model.proofs.Scripts.{lines_or_bad}
+use Rattle.history_model.specs.Journal.{StandsFor, IsBadAt}
+use Rattle.history_model.specs.Run.{is_done}
+use Rattle.script_model.specs.Script.{IsScript, IsFirstBad, lines_of, edit_lines}
+use Rattle.script_model.proofs.Scripts.{lines_or_bad}
 use Rattle.topo.specs.declared.words.Form.{Form}
 use Rattle.topo.specs.declared.words.Form.TheVariants.{Apply, Show}
 use Rattle.topo.specs.declared.words.Shown.{Shown}

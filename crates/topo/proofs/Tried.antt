@@ -5,9 +5,9 @@ use Rattle.topo_base.specs.declared.edit.Edit.{Edit}
 use Rattle.topo_base.specs.declared.answer.Answer.{Answer}
 use Rattle.topo_base.specs.declared.answer.Answer.TheVariants.{Done, Refused, Unbound, Stale, DiskFault, Memory}
 use Rattle.topo_io.specs.Causes.{Rose}
-use Rattle.topo_model.specs.Bindings.{Names, resolve}
-use Rattle.topo_model.specs.Legal.{keeps_limits}
-use Rattle.topo_model.specs.NamedRange.{is_script_line}
+use Rattle.script_model.specs.Bindings.{Names, resolve}
+use Rattle.drawing.specs.Accepted.{keeps_limits}
+use Rattle.script_model.specs.NamedRange.{is_script_line}
 use Rattle.topo_model.proofs.Resolving.{edit_limits, good_edit}
 use Rattle.topo.specs.Run.{is_disk_fault, faults_of, RoseBy}
 use Rattle.topo.specs.Running.{Running, IsAlike, IsSame}

@@ -5,14 +5,14 @@ use Rattle.std.specs.Io.KnownBytes.{Appends}
 use Rattle.topo_base.specs.ScriptLines.{ScriptLine}
 use Rattle.topo_base.specs.declared.edit.Entry.{Entry}
 use Rattle.topo_base.specs.declared.answer.Answer.{Answer}
-use Rattle.topo_model.specs.Answers.{Bounds}
-use Rattle.topo_model.specs.Journal.{StandsFor, IsBadAt}
-use Rattle.topo_model.specs.NamedRange.{is_script_line}
+use Rattle.history_model.specs.Answers.{Bounds}
+use Rattle.history_model.specs.Journal.{StandsFor, IsBadAt}
+use Rattle.script_model.specs.NamedRange.{is_script_line}
 use Rattle.topo_io.specs.Causes.{Rose}
 use Rattle.topo_io.specs.Sinks.{IsFront, AppendsFront}
-use Rattle.topo_model.specs.Replay.{replay}
-use Rattle.topo_model.specs.Script.{IsScript, IsFirstBad}
-use Rattle.topo_model.specs.Texts.{replies_text, tables_text, features_text, history_text}
+use Rattle.drawing.specs.Replay.{replay}
+use Rattle.script_model.specs.Script.{IsScript, IsFirstBad}
+use Rattle.script_model.specs.Texts.{replies_text, tables_text, features_text, history_text}
 use Rattle.topo_journal.specs.Kept.{Each}
 use Rattle.topo_desk.specs.Left.{StandsOrDoubts}
 use Rattle.topo.specs.declared.words.Form.TheVariants.{Apply, Show}

@@ -6,8 +6,8 @@ use Rattle.topo_base.specs.declared.edit.Entry.{Entry}
 use Rattle.topo_base.specs.declared.answer.Answer.{Answer}
 use Rattle.topo_io.specs.Causes.{Rose}
 use Rattle.topo_io.specs.Sinks.{AppendsFront}
-use Rattle.topo_model.specs.Replay.{replay}
-use Rattle.topo_model.specs.Texts.{replies_text, tables_text}
+use Rattle.drawing.specs.Replay.{replay}
+use Rattle.script_model.specs.Texts.{replies_text, tables_text}
 use Rattle.topo.specs.Views.{SinkView}
 
 -- the lines that name what is bad

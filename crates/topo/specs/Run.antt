@@ -6,13 +6,13 @@ use Rattle.topo_base.specs.declared.edit.Edit.{Edit}
 use Rattle.topo_base.specs.declared.edit.Entry.{Entry}
 use Rattle.topo_base.specs.declared.answer.Answer.{Answer}
 use Rattle.topo_base.specs.declared.answer.Answer.TheVariants.{Unbound, DiskFault, Memory}
-use Rattle.topo_model.specs.Answers.{Bounds}
-use Rattle.topo_model.specs.Bindings.{Names, no_names, bound, ids_of, resolve}
-use Rattle.topo_model.specs.Legal.{is_legal}
-use Rattle.topo_model.specs.Replay.{replay}
-use Rattle.topo_model.specs.Run.{AreRight, is_done}
+use Rattle.history_model.specs.Answers.{Bounds}
+use Rattle.script_model.specs.Bindings.{Names, no_names, bound, ids_of, resolve}
+use Rattle.history_model.specs.Legal.{is_legal}
+use Rattle.drawing.specs.Replay.{replay}
+use Rattle.history_model.specs.Run.{AreRight, is_done}
 use Rattle.topo_model.specs.ScriptRun.{script_edits, script_history, answers_given}
-use Rattle.topo_model.specs.Subdivision.{IsSubdivision}
+use Rattle.drawing.specs.Subdivision.{IsSubdivision}
 use Rattle.reference_laws.specs.Referenced.{IsReferenced}
 use Rattle.topo_desk.specs.Verdict.{IsTried, history_after}
 

@@ -8,10 +8,10 @@ use Rattle.topo_base.specs.declared.answer.Answer.{Answer}
 use Rattle.script_reader.specs.Bindings.{names_of}
 use Rattle.topo_io.specs.Causes.{Rose}
 use Rattle.topo_io.specs.Sinks.{IsFront, AppendsFront}
-use Rattle.topo_model.specs.Answers.{Bounds}
-use Rattle.topo_model.specs.Bindings.{Names, no_names, bound, ids_of}
-use Rattle.topo_model.specs.Run.{is_done}
-use Rattle.topo_model.specs.Texts.{reply_text, replies_text}
+use Rattle.history_model.specs.Answers.{Bounds}
+use Rattle.script_model.specs.Bindings.{Names, no_names, bound, ids_of}
+use Rattle.history_model.specs.Run.{is_done}
+use Rattle.script_model.specs.Texts.{reply_text, replies_text}
 use Rattle.topo.specs.declared.run.Stop.{Stop}
 use Rattle.topo.specs.declared.run.Stop.TheVariants.{NoMemory, NoText, Fault}
 use Rattle.topo.specs.Views.{SinkView}

@@ -3,9 +3,9 @@ use Rattle.std.specs.Prelude.{◌≡◌, ◌⊎◌, ℕ, ◌<◌, ◌≤◌, Lis
 use Rattle.topo_base.specs.ScriptLines.{ScriptLine}
 use Rattle.topo_base.specs.declared.edit.Entry.{Entry}
 use Rattle.topo_io.specs.Causes.{Rose}
-use Rattle.topo_model.specs.Journal.{StandsFor, IsBadAt}
-use Rattle.topo_model.specs.NamedRange.{is_script_line}
-use Rattle.topo_model.specs.Script.{IsScript, IsFirstBad}
+use Rattle.history_model.specs.Journal.{StandsFor, IsBadAt}
+use Rattle.script_model.specs.NamedRange.{is_script_line}
+use Rattle.script_model.specs.Script.{IsScript, IsFirstBad}
 use Rattle.topo.specs.declared.words.Form.{Form}
 use Rattle.topo.specs.declared.words.Form.TheVariants.{Apply, Show}
 use Rattle.topo.specs.Words.{IsForm, AreForm}

@@ -1,9 +1,9 @@
 // A script is run on the desk of a journal.
 ghost use Rattle.std.specs.Prelude.{◌≡◌, ◌≤◌, ◌++◌, codes, false, IsTrue, if◌then◌else◌};
 ghost use Rattle.std.specs.List.{list_all};
-ghost use Rattle.topo_model.specs.NamedRange.{is_script_line};
-ghost use Rattle.topo_model.specs.Replay.{replay};
-ghost use Rattle.topo_model.specs.Texts.{tables_text};
+ghost use Rattle.script_model.specs.NamedRange.{is_script_line};
+ghost use Rattle.drawing.specs.Replay.{replay};
+ghost use Rattle.script_model.specs.Texts.{tables_text};
 ghost use Rattle.topo_recover.specs.Recovered.{IsKept};
 ghost use Rattle.topo.specs.Endings.{Applied, RunsOn, RunsScript, standard};
 ghost use Rattle.topo.specs.Output.{Prints};

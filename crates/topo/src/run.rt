@@ -1,10 +1,11 @@
 ghost use Rattle.std.specs.Prelude.{◌≡◌, IsTrue, IfOk, OnOk, OnErr};
 ghost use Rattle.std.specs.List.{list_all};
 ghost use Rattle.topo_journal.specs.Kept.{Each};
-ghost use Rattle.topo_model.specs.NamedRange.{is_script_line};
-ghost use Rattle.topo_model.specs.Replay.{replay};
-ghost use Rattle.topo_model.specs.Tables.{tables_of};
-ghost use Rattle.topo_model.specs.Legal.{keeps_limits, is_legal};
+ghost use Rattle.script_model.specs.NamedRange.{is_script_line};
+ghost use Rattle.drawing.specs.Replay.{replay};
+ghost use Rattle.drawing.specs.Tables.{tables_of};
+ghost use Rattle.drawing.specs.Accepted.{keeps_limits};
+ghost use Rattle.history_model.specs.Legal.{is_legal};
 ghost use Rattle.topo_desk.specs.Left.{StandsOrDoubts};
 ghost use Rattle.topo_desk.specs.Verdict.{IsTried, history_after};
 ghost use Rattle.topo.specs.Run.{edit_at, entry, IsLineTried, grown, is_disk_fault};

@@ -1,6 +1,6 @@
 // What a journal holds is shown.
 ghost use Rattle.std.specs.Prelude.{◌≡◌, IsTrue, IfOk};
-ghost use Rattle.topo_model.specs.Legal.{is_legal};
+ghost use Rattle.history_model.specs.Legal.{is_legal};
 ghost use Rattle.topo_recover.specs.Recovered.{IsKept};
 ghost use Rattle.topo.specs.Endings.{Showed, shown_text, standard};
 ghost use Rattle.topo.specs.Output.{Prints};

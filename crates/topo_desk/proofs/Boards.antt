@@ -10,18 +10,18 @@ use Rattle.read_set.specs.Planned.{Planned}
 use Rattle.read_set.specs.Plans.{IsPlanFor}
 use Rattle.read_set.specs.declared.end.PlanEnd.{PlanEnd}
 use Rattle.read_set.specs.declared.end.PlanEnd.TheVariants.{Refused, Memory}
-use Rattle.topo_model.specs.Answers.{Bounds}
-use Rattle.topo_model.specs.Drawing.{Drawing}
-use Rattle.topo_model.specs.InRange.{is_spelled}
-use Rattle.topo_model.specs.Legal.{is_legal, journal_length}
-use Rattle.topo_model.specs.Replay.{replay, answer_of}
-use Rattle.topo_model.specs.Spelling.{frame_bytes}
-use Rattle.topo_model.specs.Step.{step}
-use Rattle.topo_model.specs.Tables.{Tables, tables_of, drawn}
-use Rattle.topo_model.specs.Writes.{all_written}
-use Rattle.topo_model.proofs.CoreRunning.{legal-push}
-use Rattle.topo_model.proofs.LineTurns.{all-append}
-use Rattle.topo_model.proofs.TableLemmas.{drawn-tables_of}
+use Rattle.history_model.specs.Answers.{Bounds}
+use Rattle.drawing.specs.Drawing.{Drawing}
+use Rattle.drawing.specs.InRange.{is_spelled}
+use Rattle.history_model.specs.Legal.{is_legal, journal_length}
+use Rattle.drawing.specs.Replay.{replay, answer_of}
+use Rattle.history_model.specs.Spelling.{frame_bytes}
+use Rattle.drawing.specs.Step.{step}
+use Rattle.drawing.specs.Tables.{Tables, tables_of, drawn}
+use Rattle.drawing.specs.Writes.{all_written}
+use Rattle.history_model.proofs.CoreRunning.{legal-push}
+use Rattle.plane.proofs.LineTurns.{all-append}
+use Rattle.drawing.proofs.TableLemmas.{drawn-tables_of}
 use Rattle.topo_desk.specs.Beyond.{adds_beyond}
 use Rattle.topo_desk.specs.Boarded.{Boarded, IsBoard}
 use Rattle.topo_desk.specs.Prepared.{IsReadied, IsUnready}

@@ -5,8 +5,8 @@ use Rattle.topo_base.specs.declared.edit.Entry.{Entry}
 use Rattle.topo_base.specs.declared.element.Element.{Element}
 use Rattle.topo_base.specs.declared.write.RowWrite.{RowWrite}
 use Rattle.entry_codec.specs.Laws.{EntriesAreRead}
-use Rattle.topo_model.specs.Legal.{journal_length}
-use Rattle.topo_model.specs.Spelling.{entry_bytes}
+use Rattle.history_model.specs.Legal.{journal_length}
+use Rattle.history_model.specs.Spelling.{entry_bytes}
 use Rattle.topo_journal.specs.Entries.{spellings}
 use Rattle.topo_journal.specs.Kept.{IsFrame, body_in}
 use Rattle.topo_journal.proofs.EntryFrames.{entry_frame}

@@ -9,14 +9,15 @@ use Rattle.topo_base.specs.declared.rule.Rule.{Rule}
 use Rattle.topo_base.specs.declared.rule.Rule.TheVariants.{IdsSpent, HistoryFull}
 use Rattle.topo_base.specs.declared.write.RowWrite.{RowWrite}
 use Rattle.read_set.specs.Plans.{IsPlanFor}
-use Rattle.topo_model.specs.Answers.{Bounds}
-use Rattle.topo_model.specs.Drawing.{Drawing, nothing_drawn}
-use Rattle.topo_model.specs.InRange.{is_spelled, is_edit, is_in_range}
-use Rattle.topo_model.specs.Legal.{is_legal, is_entry, is_editor, keeps_limits, are_accepted, ids_within, journal_length}
-use Rattle.topo_model.specs.Outcome.{Accepted, Outcome}
-use Rattle.topo_model.specs.Replay.{replay, after, after_all, answer_of, drawing_of, edits_of}
-use Rattle.topo_model.specs.Spelling.{entry_bytes, frame_bytes}
-use Rattle.topo_model.specs.Step.{step}
+use Rattle.history_model.specs.Answers.{Bounds}
+use Rattle.drawing.specs.Drawing.{Drawing, nothing_drawn}
+use Rattle.drawing.specs.InRange.{is_spelled, is_edit, is_in_range}
+use Rattle.history_model.specs.Legal.{is_legal, journal_length}
+use Rattle.drawing.specs.Accepted.{is_entry, is_editor, keeps_limits, are_accepted, ids_within}
+use Rattle.drawing.specs.Outcome.{Accepted, Outcome}
+use Rattle.drawing.specs.Replay.{replay, after, after_all, answer_of, drawing_of, edits_of}
+use Rattle.history_model.specs.Spelling.{entry_bytes, frame_bytes}
+use Rattle.drawing.specs.Step.{step}
 use Rattle.std.specs.List.{list_any}
 use Rattle.topo_desk.specs.Beyond.{adds_beyond}
 use Rattle.edit_plan.specs.Ready.{IsReady}
@@ -58,7 +59,7 @@ legal_ready m history small legal =
     let two = and_parts (nat_le S.next_ids.node top && nat_le S.next_ids.edge top) (nat_le S.next_ids.face top) three.0 in
     let one = and_parts (nat_le S.next_ids.node top) (nat_le S.next_ids.edge top) two.0 in
     let node = leb-true _ _ one.0 in let edge = leb-true _ _ one.1 in let face = leb-true _ _ two.1 in let layer = leb-true _ _ three.1 in let feature = leb-true _ _ four.1 in
-    record { kept = references_stay.each_history m.max_id m.max_journal history legal; node_more = omega arith; edge_more = omega arith; face_more = omega arith; layer_more = omega arith; feature_more = omega arith }
+    record { kept = references_stay.each_history m.max_id history (and_parts (is_accepted m.max_id history) (nat_le (journal_length history) m.max_journal) legal).0; node_more = omega arith; edge_more = omega arith; face_more = omega arith; layer_more = omega arith; feature_more = omega arith }
 
 -- ---- what an edit is answered
 -- by a rule of its function

@@ -7,15 +7,16 @@ use Rattle.std.proofs.lemmas.List.{map-append}
 use Rattle.topo_base.specs.declared.edit.Entry.{Entry}
 use Rattle.entry_codec.specs.Laws.{EntriesAreRead}
 use Rattle.entry_codec.specs.Reading.{entry_in}
-use Rattle.topo_model.specs.Answers.{Bounds}
-use Rattle.topo_model.specs.Drawing.{Drawing, nothing_drawn}
-use Rattle.topo_model.specs.InRange.{is_spelled}
-use Rattle.topo_model.specs.Journal.{AreEntries, StandsFor, next_gate}
-use Rattle.topo_model.specs.Legal.{is_legal, is_entry, are_accepted, ids_within, journal_length}
-use Rattle.topo_model.specs.Replay.{after}
-use Rattle.topo_model.specs.Spelling.{entry_bytes}
-use Rattle.topo_model.specs.Step.{step}
-use Rattle.topo_model.proofs.LineTurns.{all-append}
+use Rattle.history_model.specs.Answers.{Bounds}
+use Rattle.drawing.specs.Drawing.{Drawing, nothing_drawn}
+use Rattle.drawing.specs.InRange.{is_spelled}
+use Rattle.history_model.specs.Journal.{AreEntries, StandsFor, next_gate}
+use Rattle.history_model.specs.Legal.{is_legal, journal_length}
+use Rattle.drawing.specs.Accepted.{is_entry, are_accepted, ids_within}
+use Rattle.drawing.specs.Replay.{after}
+use Rattle.history_model.specs.Spelling.{entry_bytes}
+use Rattle.drawing.specs.Step.{step}
+use Rattle.plane.proofs.LineTurns.{all-append}
 use Rattle.topo_journal.specs.Bytes.{frame, frames, opening}
 use Rattle.topo_journal.specs.Entries.{spellings}
 use Rattle.topo_journal.specs.Kept.{IsFront, IsClosedAfter, IsFramedAfter, IsSound, Each, bodies_of, history, doubted}

@@ -7,12 +7,12 @@ use Rattle.std.proofs.lemmas.List.{map-append}
 use Rattle.topo_base.specs.declared.edit.Entry.{Entry}
 use Rattle.entry_codec.specs.Laws.{EntriesAreRead}
 use Rattle.entry_codec.specs.Reading.{entry_in}
-use Rattle.topo_model.specs.Answers.{Bounds}
-use Rattle.topo_model.specs.InRange.{is_spelled}
-use Rattle.topo_model.specs.Journal.{IsNoJournalYet, StandsFor}
-use Rattle.topo_model.specs.Legal.{is_legal}
-use Rattle.topo_model.specs.Spelling.{entry_bytes}
-use Rattle.topo_model.proofs.LineTurns.{all-append}
+use Rattle.history_model.specs.Answers.{Bounds}
+use Rattle.drawing.specs.InRange.{is_spelled}
+use Rattle.history_model.specs.Journal.{IsNoJournalYet, StandsFor}
+use Rattle.history_model.specs.Legal.{is_legal}
+use Rattle.history_model.specs.Spelling.{entry_bytes}
+use Rattle.plane.proofs.LineTurns.{all-append}
 use Rattle.topo_journal.specs.Bytes.{Legal, Stands, History, Bad, is_not_yet}
 use Rattle.topo_journal.specs.Entries.{spellings}
 use Rattle.topo_disk.specs.Disk.{LeavesOnly}

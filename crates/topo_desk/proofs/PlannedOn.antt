@@ -7,9 +7,9 @@ use Rattle.read_set.specs.Planned.{Planned}
 use Rattle.read_set.specs.Plans.{IsPlanFor}
 use Rattle.read_set.specs.declared.end.PlanEnd.{PlanEnd}
 use Rattle.read_set.specs.declared.end.PlanEnd.TheVariants.{Refused, Memory}
-use Rattle.topo_model.specs.Replay.{answer_of}
-use Rattle.topo_model.specs.Step.{step}
-use Rattle.topo_model.specs.Tables.{Tables, drawn}
+use Rattle.drawing.specs.Replay.{answer_of}
+use Rattle.drawing.specs.Step.{step}
+use Rattle.drawing.specs.Tables.{Tables, drawn}
 use Rattle.topo_tables.specs.Taken.{Taken}
 use Rattle.topo_desk.specs.Prepared.{IsUnready}
 

@@ -7,11 +7,11 @@ use Rattle.topo_base.specs.declared.rows.Counters.{Counters}
 use Rattle.topo_base.specs.declared.write.RowId.TheVariants.{Old, Fresh}
 use Rattle.topo_base.specs.declared.write.RowWrite.{RowWrite}
 use Rattle.topo_base.specs.declared.write.RowWrite.TheVariants.{AddNode, SetContaining, SetPoint, DropNode, AddEdge, SetNext, SetSide, SetLine, DropEdge, AddFace, SetBox, DropFace, AddLayer, AddFeature, DropFeature, AddRow, DropRow, Raise}
-use Rattle.topo_model.specs.Drawing.{Drawing}
-use Rattle.topo_model.specs.Legal.{ids_within}
-use Rattle.topo_model.specs.Tables.{Tables, tables_of}
-use Rattle.topo_model.specs.Writable.{CanWrite, CanWriteAll}
-use Rattle.topo_model.specs.Writes.{written, all_written}
+use Rattle.drawing.specs.Drawing.{Drawing}
+use Rattle.drawing.specs.Accepted.{ids_within}
+use Rattle.drawing.specs.Tables.{Tables, tables_of}
+use Rattle.drawing.specs.Writable.{CanWrite, CanWriteAll}
+use Rattle.drawing.specs.Writes.{written, all_written}
 use Rattle.topo_desk.specs.Beyond.{adds_beyond}
 
 -- all next ids are at most one more than the limit

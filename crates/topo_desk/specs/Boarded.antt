@@ -3,11 +3,11 @@ use Rattle.std.specs.Prelude.{◌≡◌, ℕ, IsTrue, List}
 use Rattle.std.specs.List.{list_all}
 use Rattle.topo_base.specs.declared.edit.Entry.{Entry}
 use Rattle.topo_base.specs.declared.limits.Limits.{Limits}
-use Rattle.topo_model.specs.Answers.{Bounds}
-use Rattle.topo_model.specs.InRange.{is_spelled}
-use Rattle.topo_model.specs.Legal.{is_legal, journal_length}
-use Rattle.topo_model.specs.Replay.{replay}
-use Rattle.topo_model.specs.Tables.{Tables, tables_of}
+use Rattle.history_model.specs.Answers.{Bounds}
+use Rattle.drawing.specs.InRange.{is_spelled}
+use Rattle.history_model.specs.Legal.{is_legal, journal_length}
+use Rattle.drawing.specs.Replay.{replay}
+use Rattle.drawing.specs.Tables.{Tables, tables_of}
 use Rattle.topo_tables.specs.Room.{Room}
 
 pub record Boarded : Type 0 where

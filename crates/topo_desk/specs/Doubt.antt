@@ -2,8 +2,8 @@
 use Rattle.std.specs.Prelude.{ℕ, Bool, false, List, [], ◌∷◌, ◌++◌, Option, Some, None}
 use Rattle.topo_base.specs.declared.edit.Entry.{Entry}
 use Rattle.entry_codec.specs.Reading.{entry_in}
-use Rattle.topo_model.specs.Answers.{Bounds}
-use Rattle.topo_model.specs.Legal.{is_legal}
+use Rattle.history_model.specs.Answers.{Bounds}
+use Rattle.history_model.specs.Legal.{is_legal}
 
 abbrev pub is_legal_with : Bounds → List Entry → Option Entry → Bool
 is_legal_with m history None = false

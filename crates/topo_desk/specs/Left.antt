@@ -1,9 +1,9 @@
 -- What a desk leaves on its disk.
 use Rattle.std.specs.Prelude.{◌≡◌, ◌⊎◌, ℕ, Bool, true, IsTrue, List, [], ◌∷◌, ◌++◌}
 use Rattle.topo_base.specs.declared.edit.Entry.{Entry}
-use Rattle.topo_model.specs.Answers.{Bounds}
-use Rattle.topo_model.specs.Journal.{StandsFor}
-use Rattle.topo_model.specs.Legal.{is_legal}
+use Rattle.history_model.specs.Answers.{Bounds}
+use Rattle.history_model.specs.Journal.{StandsFor}
+use Rattle.history_model.specs.Legal.{is_legal}
 
 -- these bytes stand for the history and one legal entry more
 pub record StandsForOneMore (m : Bounds) (bytes : List ℕ) (history : List Entry) : Type 0 where

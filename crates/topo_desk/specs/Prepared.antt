@@ -8,10 +8,11 @@ use Rattle.topo_base.specs.declared.write.RowWrite.{RowWrite}
 use Rattle.read_set.specs.Plans.{IsPlanFor}
 use Rattle.read_set.specs.declared.end.PlanEnd.{PlanEnd}
 use Rattle.read_set.specs.declared.end.PlanEnd.TheVariants.{Refused, Memory}
-use Rattle.topo_model.specs.InRange.{is_spelled}
-use Rattle.topo_model.specs.Legal.{is_legal, ids_within, journal_length}
-use Rattle.topo_model.specs.Replay.{replay, after}
-use Rattle.topo_model.specs.Spelling.{frame_bytes}
+use Rattle.drawing.specs.InRange.{is_spelled}
+use Rattle.history_model.specs.Legal.{is_legal, journal_length}
+use Rattle.drawing.specs.Accepted.{ids_within}
+use Rattle.drawing.specs.Replay.{replay, after}
+use Rattle.history_model.specs.Spelling.{frame_bytes}
 use Rattle.topo_tables.specs.Room.{HasRoom}
 use Rattle.topo_desk.specs.Boarded.{Boarded}
 

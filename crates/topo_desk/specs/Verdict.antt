@@ -4,13 +4,14 @@ use Rattle.topo_base.specs.declared.edit.Entry.{Entry}
 use Rattle.topo_base.specs.declared.rule.Rule.TheVariants.{IdsSpent, HistoryFull}
 use Rattle.topo_base.specs.declared.answer.Answer.{Answer}
 use Rattle.topo_base.specs.declared.answer.Answer.TheVariants.{Done, Refused, DiskFault}
-use Rattle.topo_model.specs.Outcome.{Outcome}
-use Rattle.topo_model.specs.Step.{step}
-use Rattle.topo_model.specs.Replay.{replay}
-use Rattle.topo_model.specs.Legal.{ids_within, journal_length}
-use Rattle.topo_model.specs.CoreLaw.{entry_of}
-use Rattle.topo_model.specs.Answers.{Bounds}
-use Rattle.topo_model.specs.Run.{is_done}
+use Rattle.drawing.specs.Outcome.{Outcome}
+use Rattle.drawing.specs.Step.{step}
+use Rattle.drawing.specs.Replay.{replay}
+use Rattle.drawing.specs.Accepted.{ids_within}
+use Rattle.history_model.specs.Legal.{journal_length}
+use Rattle.history_model.specs.CoreLaw.{entry_of}
+use Rattle.history_model.specs.Answers.{Bounds}
+use Rattle.history_model.specs.Run.{is_done}
 
 -- the answer where nothing fails: the rule that refuses the edit; an id, or else the journal, would be beyond its limit; or it is done
 abbrev pub verdict_of : Bounds → List Entry → Entry → Outcome → Answer

@@ -3,9 +3,9 @@ ghost use Rattle.std.specs.Prelude.{◌≡◌, IfOk, IfErr};
 ghost use Rattle.edit_plan.specs.Ready.{IsReady};
 ghost use Rattle.read_set.specs.Planned.{IsEditor};
 ghost use Rattle.read_set.specs.Plans.{IsPlanFor};
-ghost use Rattle.topo_model.specs.Replay.{answer_of};
-ghost use Rattle.topo_model.specs.Step.{step};
-ghost use Rattle.topo_model.specs.Tables.{tables_of, drawn};
+ghost use Rattle.drawing.specs.Replay.{answer_of};
+ghost use Rattle.drawing.specs.Step.{step};
+ghost use Rattle.drawing.specs.Tables.{tables_of, drawn};
 ghost use Rattle.topo_desk.specs.Prepared.{IsUnready};
 
 use read_set::{Plan, PlanEnd};

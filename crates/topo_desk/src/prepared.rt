@@ -1,8 +1,8 @@
 // An edit that may be entered: what there is to write and to answer.
 ghost use Rattle.std.specs.Prelude.{◌≡◌, length, IfOk, OnOk, IsTrue};
-ghost use Rattle.topo_model.specs.InRange.{is_spelled};
-ghost use Rattle.topo_model.specs.Legal.{keeps_limits};
-ghost use Rattle.topo_model.specs.Spelling.{frame_bytes};
+ghost use Rattle.drawing.specs.InRange.{is_spelled};
+ghost use Rattle.drawing.specs.Accepted.{keeps_limits};
+ghost use Rattle.history_model.specs.Spelling.{frame_bytes};
 
 use entry_codec::framed;
 use read_set::Plan;

@@ -1,7 +1,7 @@
 //! Isolated nodes on boards with small limits, and on a desk whose disk fails once.
 
 ghost use Rattle.std.specs.Prelude.{◌≡◌, ◌<◌, ◌+◌, ◌^◌, IsTrue};
-ghost use Rattle.topo_model.specs.Legal.{keeps_limits};
+ghost use Rattle.drawing.specs.Accepted.{keeps_limits};
 ghost use Rattle.topo_desk.specs.Boarded.{bounds_of};
 
 use crate::{Board, Desk};

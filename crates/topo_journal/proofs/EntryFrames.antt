@@ -3,7 +3,7 @@ use Rattle.std.proofs.Common.{◌≡◌, ◌<◌, ℕ, zero, suc, ◌^◌, List,
 use Rattle.std.proofs.lemmas.Nat.{be_bytes_4}
 use Rattle.std.proofs.lemmas.List.{take_at}
 use Rattle.topo_base.specs.declared.edit.Entry.{Entry}
-use Rattle.topo_model.specs.Spelling.{number_bytes, entry_bytes, frame_bytes}
+use Rattle.history_model.specs.Spelling.{number_bytes, entry_bytes, frame_bytes}
 use Rattle.topo_journal.specs.Bytes.{size_bytes, frame}
 use Rattle.topo_journal.specs.Kept.{body_in}
 use Rattle.topo_journal.specs.Entries.{IsEntryFrame}

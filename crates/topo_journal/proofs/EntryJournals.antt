@@ -3,9 +3,9 @@ use Rattle.std.proofs.Common.{◌≡◌, ◌≢◌, ◌<◌, inl, inr, ⊎_elim,
 use Rattle.std.proofs.lemmas.Bool.{cases_eq, cases_lt, true≢false}
 use Rattle.std.proofs.lemmas.Bool.Decides.{nat_tests}
 use Rattle.topo_base.specs.declared.edit.Entry.{Entry}
-use Rattle.topo_model.specs.Drawing.{Drawing}
-use Rattle.topo_model.specs.Answers.{Bounds}
-use Rattle.topo_model.specs.Journal.{AreEntries, IsHeaded, IsNoJournalYet, StandsFor, IsBadAt}
+use Rattle.drawing.specs.Drawing.{Drawing}
+use Rattle.history_model.specs.Answers.{Bounds}
+use Rattle.history_model.specs.Journal.{AreEntries, IsHeaded, IsNoJournalYet, StandsFor, IsBadAt}
 use Rattle.topo_journal.specs.Bytes.{Legal, Stands, History, Bad, read_gates, read}
 use Rattle.topo_journal.specs.Kept.{AreBytes}
 use Rattle.topo_journal.specs.Plain.{has_name}

@@ -5,16 +5,17 @@ use Rattle.std.proofs.Math.Bool.{and-true}
 use Rattle.std.proofs.lemmas.Bool.{cases_eq, lt-ltb, and_parts, true≢false}
 use Rattle.std.proofs.lemmas.Bool.Decides.{nat_tests}
 use Rattle.std.proofs.lemmas.List.{append-nil, map-append, take_at, drop_at}
-use Rattle.topo_model.proofs.LineTurns.{all-append}
+use Rattle.plane.proofs.LineTurns.{all-append}
 use Rattle.topo_base.specs.declared.edit.Entry.{Entry}
-use Rattle.topo_model.specs.Drawing.{Drawing, nothing_drawn}
-use Rattle.topo_model.specs.Step.{step}
-use Rattle.topo_model.specs.Replay.{replay, after, after_all, edits_of}
-use Rattle.topo_model.specs.Legal.{ids_within, is_entry, are_accepted, is_legal, journal_length}
-use Rattle.topo_model.specs.InRange.{is_spelled}
-use Rattle.topo_model.specs.Spelling.{number_bytes, entry_bytes}
-use Rattle.topo_model.specs.Answers.{Bounds}
-use Rattle.topo_model.specs.Journal.{IsFramed, next_gate, may_stand, AreEntries, IsBadGate, IsBadAfter}
+use Rattle.drawing.specs.Drawing.{Drawing, nothing_drawn}
+use Rattle.drawing.specs.Step.{step}
+use Rattle.drawing.specs.Replay.{replay, after, after_all, edits_of}
+use Rattle.drawing.specs.Accepted.{ids_within, is_entry, are_accepted}
+use Rattle.history_model.specs.Legal.{is_legal, journal_length}
+use Rattle.drawing.specs.InRange.{is_spelled}
+use Rattle.history_model.specs.Spelling.{number_bytes, entry_bytes}
+use Rattle.history_model.specs.Answers.{Bounds}
+use Rattle.history_model.specs.Journal.{IsFramed, next_gate, may_stand, AreEntries, IsBadGate, IsBadAfter}
 use Rattle.topo_journal.specs.Bytes.{Legal, Follow, AreLegal, number, frame, frames, Reading, History, Bad, read_gates}
 use Rattle.topo_journal.specs.Kept.{AreBytes, gate_behind}
 use Rattle.topo_journal.specs.Entries.{spellings, AreSpelled}

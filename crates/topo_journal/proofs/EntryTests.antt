@@ -4,11 +4,11 @@ use Rattle.std.specs.Prelude.{◌↔◌}
 use Rattle.std.specs.List.{list_all}
 use Rattle.std.proofs.lemmas.Bool.{and_parts}
 use Rattle.topo_base.specs.declared.edit.Entry.{Entry}
-use Rattle.topo_model.specs.Replay.{replay}
-use Rattle.topo_model.specs.InRange.{is_spelled}
-use Rattle.topo_model.specs.Spelling.{entry_bytes}
-use Rattle.topo_model.specs.Answers.{Bounds}
-use Rattle.topo_model.specs.Journal.{may_stand}
+use Rattle.drawing.specs.Replay.{replay}
+use Rattle.drawing.specs.InRange.{is_spelled}
+use Rattle.history_model.specs.Spelling.{entry_bytes}
+use Rattle.history_model.specs.Answers.{Bounds}
+use Rattle.history_model.specs.Journal.{may_stand}
 use Rattle.entry_codec.specs.Reading.{entry_in}
 use Rattle.entry_codec.proofs.EditLaws.{entries_read}
 use Rattle.topo_journal.specs.Bytes.{Legal}

@@ -2,12 +2,12 @@
 use Rattle.std.specs.Prelude.{◌≡◌, ℕ, Bool, false, IsTrue, List, [], ◌∷◌, map, Option, Some, None, option_and_then}
 use Rattle.std.specs.List.{list_all}
 use Rattle.topo_base.specs.declared.edit.Entry.{Entry}
-use Rattle.topo_model.specs.Replay.{replay}
-use Rattle.topo_model.specs.Legal.{is_legal}
-use Rattle.topo_model.specs.InRange.{is_spelled}
-use Rattle.topo_model.specs.Spelling.{entry_bytes, frame_bytes}
-use Rattle.topo_model.specs.Answers.{Bounds}
-use Rattle.topo_model.specs.Journal.{may_stand, StandsFor, IsBadAt}
+use Rattle.drawing.specs.Replay.{replay}
+use Rattle.history_model.specs.Legal.{is_legal}
+use Rattle.drawing.specs.InRange.{is_spelled}
+use Rattle.history_model.specs.Spelling.{entry_bytes, frame_bytes}
+use Rattle.history_model.specs.Answers.{Bounds}
+use Rattle.history_model.specs.Journal.{may_stand, StandsFor, IsBadAt}
 use Rattle.entry_codec.specs.Reading.{entry_in}
 use Rattle.topo_journal.specs.Bytes.{Legal, AreLegal, Stands, read, Bad}
 use Rattle.topo_journal.specs.Kept.{AreBytes, IsFrame, body_in, gate_behind}

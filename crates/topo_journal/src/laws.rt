@@ -1,8 +1,8 @@
 ghost use Rattle.std.specs.Prelude.{◌≡◌, ◌<◌, ◌^◌, ◌↔◌, true, IsTrue, List, ℕ, length, slice_index};
 ghost use Rattle.topo_base.specs.declared.edit.Entry.{Entry};
-ghost use Rattle.topo_model.specs.InRange.{is_spelled};
-ghost use Rattle.topo_model.specs.Spelling.{entry_bytes};
-ghost use Rattle.topo_model.specs.Answers.{Bounds};
+ghost use Rattle.drawing.specs.InRange.{is_spelled};
+ghost use Rattle.history_model.specs.Spelling.{entry_bytes};
+ghost use Rattle.history_model.specs.Answers.{Bounds};
 ghost use Rattle.topo_journal.specs.Bytes.{Legal, Stands};
 ghost use Rattle.topo_journal.specs.Kept.{AreBytes, CanBeAdopted};
 ghost use Rattle.topo_journal.specs.Entries.{spellings, AreSpelled, MayFollow, legal_entry, ReadsEntries, IsEntryFrame};

@@ -12,11 +12,11 @@ use Rattle.topo_base.specs.declared.named.IdWord.{IdWord}
 use Rattle.topo_base.specs.declared.named.NamedPair.{NamedPair}
 use Rattle.topo_base.specs.declared.named.NamedEdit.{NamedEdit}
 use Rattle.topo_base.specs.declared.named.NamedEdit.TheVariants.{AddIsoNode, MoveIsoNode, RemoveIsoNode, AddIsoEdge, RemoveIsoEdge, AddEdgeModFace, AddEdgeNewFaces, RemEdgeModFace, RemEdgeNewFace, ModEdgeSplit, NewEdgesSplit, ModEdgeHeal, NewEdgeHeal, AddLayer, CreateTopoGeom, AddElement, RemElement, DropFeature}
-use Rattle.topo_model.specs.InRange.{is_grid_point}
-use Rattle.topo_model.specs.Legal.{keeps_limits, is_line_short}
-use Rattle.topo_model.specs.NamedRange.{is_id_word, is_named_pair, is_new_line, is_named_edit, is_script_line}
+use Rattle.drawing.specs.InRange.{is_grid_point}
+use Rattle.drawing.specs.Accepted.{keeps_limits, is_line_short}
+use Rattle.script_model.specs.NamedRange.{is_id_word, is_named_pair, is_new_line, is_named_edit, is_script_line}
 use Rattle.topo_base.specs.Names.{is_name}
-use Rattle.topo_model.specs.Bindings.{Names, id_of, with_one, with_two, with_three, with_given, pair_of, onto_pairs, pairs_of, with_pairs, resolve, bound, ids_of}
+use Rattle.script_model.specs.Bindings.{Names, id_of, with_one, with_two, with_three, with_given, pair_of, onto_pairs, pairs_of, with_pairs, resolve, bound, ids_of}
 use Rattle.topo_model.specs.ScriptRun.{onto_edits, edits_given}
 
 -- what is made of ids has a quality where all that can be made has it

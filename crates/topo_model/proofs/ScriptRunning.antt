@@ -4,14 +4,14 @@ use Rattle.topo_base.specs.ScriptLines.{ScriptLine}
 use Rattle.topo_base.specs.declared.edit.Edit.{Edit}
 use Rattle.topo_base.specs.declared.answer.Answer.{Answer}
 use Rattle.topo_base.specs.declared.answer.Answer.TheVariants.{Memory}
-use Rattle.topo_model.specs.Drawing.{Drawing}
-use Rattle.topo_model.specs.Step.{step}
-use Rattle.topo_model.specs.Replay.{after_all, edits_of}
-use Rattle.topo_model.specs.Bindings.{Names, no_names, bound}
-use Rattle.topo_model.specs.Run.{AreAnswersFrom, entries_of}
+use Rattle.drawing.specs.Drawing.{Drawing}
+use Rattle.drawing.specs.Step.{step}
+use Rattle.drawing.specs.Replay.{after_all, edits_of}
+use Rattle.script_model.specs.Bindings.{Names, no_names, bound}
+use Rattle.history_model.specs.Run.{AreAnswersFrom, entries_of}
 use Rattle.topo_model.specs.ScriptRun.{Place, beginning, edit_at, answer_to, drawing_with, front_with, place_after, place_after_all, answers_at, AreLineAnswers, onto_edits, edits_given, onto_answers, answers_given, ScriptsAreRight}
 use Rattle.topo_model.proofs.Resolving.{edits_limits}
-use Rattle.topo_model.proofs.Running.{runs_right, replay_step}
+use Rattle.history_model.proofs.Running.{runs_right, replay_step}
 
 -- ---- the answers to the edits that were given
 no_answers : (b : Names) (ls : List ScriptLine) → answers_given b ls [] ≡ []

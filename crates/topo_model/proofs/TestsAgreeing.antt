@@ -1,10 +1,11 @@
 -- All tests together.
 use Rattle.topo_model.specs.TestsLaw.{TestsAgree}
-use Rattle.topo_model.proofs.PointTests.{Decides-on_segment}
-use Rattle.topo_model.proofs.TouchTests.{Decides-touches}
-use Rattle.topo_model.proofs.MeetTests.{Decides-overlaps, Decides-touches_at, Decides-meets_only_at}
-use Rattle.topo_model.proofs.SimpleTests.{Decides-simple}
-use Rattle.topo_model.proofs.BlockedTests.{Decides-on_line, Decides-inside_line, Decides-own_ends, Decides-blocked, Decides-blocked_for, Decides-line_blocked}
+use Rattle.plane.proofs.PointTests.{Decides-on_segment}
+use Rattle.plane.proofs.TouchTests.{Decides-touches}
+use Rattle.plane.proofs.MeetTests.{Decides-overlaps, Decides-touches_at, Decides-meets_only_at}
+use Rattle.plane.proofs.SimpleTests.{Decides-simple}
+use Rattle.plane.proofs.LineTests.{Decides-on_line, Decides-inside_line, Decides-own_ends}
+use Rattle.drawing.proofs.BlockedTests.{Decides-blocked, Decides-blocked_for, Decides-line_blocked}
 
 pub tests_agree : TestsAgree
 tests_agree = record {

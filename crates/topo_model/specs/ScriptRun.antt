@@ -6,13 +6,13 @@ use Rattle.topo_base.specs.declared.edit.Edit.{Edit}
 use Rattle.topo_base.specs.declared.edit.Entry.{Entry}
 use Rattle.topo_base.specs.declared.answer.Answer.{Answer}
 use Rattle.topo_base.specs.declared.answer.Answer.TheVariants.{Unbound, Memory}
-use Rattle.topo_model.specs.Drawing.{Drawing, nothing_drawn}
-use Rattle.topo_model.specs.Step.{step}
-use Rattle.topo_model.specs.Replay.{after, replay, answer_of, front_after}
-use Rattle.topo_model.specs.Bindings.{Names, no_names, bound, ids_of, resolve}
-use Rattle.topo_model.specs.NamedRange.{is_script_line}
-use Rattle.topo_model.specs.Run.{history_of, IsRightRun}
-use Rattle.topo_model.specs.Texts.{replies_text, tables_text}
+use Rattle.drawing.specs.Drawing.{Drawing, nothing_drawn}
+use Rattle.drawing.specs.Step.{step}
+use Rattle.drawing.specs.Replay.{after, replay, answer_of, front_after}
+use Rattle.script_model.specs.Bindings.{Names, no_names, bound, ids_of, resolve}
+use Rattle.script_model.specs.NamedRange.{is_script_line}
+use Rattle.history_model.specs.Run.{history_of, IsRightRun}
+use Rattle.script_model.specs.Texts.{replies_text, tables_text}
 
 -- where a run stands: the drawing, the length of the history, and what each name is bound to
 pub record Place : Type 0 where

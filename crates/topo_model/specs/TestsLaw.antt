@@ -1,34 +1,16 @@
 -- The tests by which Step decides on points, segments and lines, and the sentences on rational points that they stand for.
-use Rattle.std.specs.Prelude.{◌≢◌, ℕ, ◌↔◌, ◌⊎◌, IsTrue, List, Contains, All}
+use Rattle.std.specs.Prelude.{ℕ, ◌↔◌, ◌⊎◌, IsTrue, List, All}
 use Rattle.topo_base.specs.Point.{Point}
-use Rattle.topo_base.specs.RationalPoint.{RationalPoint, rational, IsAt}
-use Rattle.topo_base.specs.declared.rows.NodeRow.{NodeRow}
-use Rattle.topo_model.specs.Segment.{Segment, on_segment, touches, overlaps, touches_at, meets_only_at}
-use Rattle.topo_model.specs.Line.{segments_of, first_vertex, last_vertex, on_line, is_inside_line, is_simple, meets_at_own_ends}
-use Rattle.topo_model.specs.Drawing.{Drawing, Edge}
-use Rattle.topo_model.specs.Blocked.{is_blocked, is_blocked_for, is_line_blocked}
-use Rattle.topo_model.specs.RationalTests.{IsOn, IsOnLine, IsOnEdge}
-use Rattle.topo_model.specs.Relation.{IsProper, HaveOne, HaveMore, MeetAt, MeetOnlyAt}
-use Rattle.topo_model.specs.Plain.{IsSimpleLine}
-
--- q lies on the line, and is neither its first vertex nor its last
-abbrev pub IsInsideLine : RationalPoint → List Point → Type 0
-IsInsideLine q line = IsOnLine q line × (IsAt (first_vertex line) q → ⊥) × (IsAt (last_vertex line) q → ⊥)
-
--- each point that lies on both lines is the first vertex of the one, or its last
-abbrev pub MeetsAtOwnEnds : List Point → List Point → Type 0
-MeetsAtOwnEnds line other = (q : RationalPoint) → IsOnLine q line → IsOnLine q other → IsAt (first_vertex line) q ⊎ IsAt (last_vertex line) q
-
--- q is the point of a node; it lies on an edge
-abbrev pub IsAtNode : Drawing → RationalPoint → Type 0
-IsAtNode S q = (n : NodeRow) × (Contains S.nodes n × IsAt n.geom q)
-
-abbrev pub IsAtEdge : Drawing → RationalPoint → Type 0
-IsAtEdge S q = (e : Edge) × (Contains S.edges e × IsOnEdge q e)
-
--- q is the point of a node other than this one
-abbrev pub IsAtOther : Drawing → ℕ → RationalPoint → Type 0
-IsAtOther S own q = (n : NodeRow) × (Contains S.nodes n × ((n.node_id ≢ own) × IsAt n.geom q))
+use Rattle.topo_base.specs.RationalPoint.{RationalPoint, rational}
+use Rattle.plane.specs.Segment.{Segment, on_segment, touches, overlaps, touches_at, meets_only_at}
+use Rattle.plane.specs.Line.{segments_of, on_line, is_inside_line, is_simple, meets_at_own_ends}
+use Rattle.drawing.specs.Drawing.{Drawing}
+use Rattle.drawing.specs.Blocked.{is_blocked, is_blocked_for, is_line_blocked}
+use Rattle.plane.specs.RationalTests.{IsOn, IsOnLine}
+use Rattle.plane.specs.Relation.{IsProper, HaveOne, HaveMore, MeetAt, MeetOnlyAt}
+use Rattle.plane.specs.SimpleLine.{IsSimpleLine}
+use Rattle.drawing.specs.DrawnPoints.{IsAtEdge, IsAtNode, IsAtOther}
+use Rattle.plane.specs.LinePoints.{IsInsideLine, MeetsAtOwnEnds}
 
 pub record TestsAgree : Type 0 where
   -- a point lies on a segment; on a line; on a line, its ends left out

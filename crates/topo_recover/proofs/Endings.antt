@@ -2,9 +2,9 @@
 use Rattle.std.proofs.Common.{◌≡◌, ◌≢◌, ◌<◌, ◌≤◌, ◌⊎◌, inl, inr, ℕ, zero, suc, Bool, true, false, ◌&&◌, List, [], ◌∷◌, length, drop, slice_index, if◌then◌else◌, nat_lt, refl, sym, ◌∙◌, ap, subst, arith}
 use Rattle.std.proofs.lemmas.Bool.{cases_eq, cases_lt}
 use Rattle.topo_base.specs.declared.edit.Entry.{Entry}
-use Rattle.topo_model.specs.Answers.{Bounds}
-use Rattle.topo_model.specs.Drawing.{Drawing}
-use Rattle.topo_model.specs.Journal.{AreEntries, IsClosed, IsNoJournalYet, StandsFor, IsBadAt}
+use Rattle.history_model.specs.Answers.{Bounds}
+use Rattle.drawing.specs.Drawing.{Drawing}
+use Rattle.history_model.specs.Journal.{AreEntries, IsClosed, IsNoJournalYet, StandsFor, IsBadAt}
 use Rattle.topo_journal.specs.Bytes.{Legal, Stands, Reading, History, Bad, number, read_gates, read, is_not_yet}
 use Rattle.topo_journal.specs.Kept.{start_of}
 use Rattle.topo_journal.specs.Plain.{has_name}

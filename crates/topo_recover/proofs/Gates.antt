@@ -5,18 +5,19 @@ use Rattle.std.proofs.lemmas.Bool.Decides.{nat_tests}
 use Rattle.std.proofs.lemmas.List.{append-nil, map-append, take_at, drop_all, drop-drop, drop_more}
 use Rattle.topo_base.specs.declared.edit.Entry.{Entry}
 use Rattle.topo_base.specs.declared.answer.Answer.{Answer}
-use Rattle.topo_model.specs.Drawing.{Drawing, nothing_drawn}
-use Rattle.topo_model.specs.Outcome.{Outcome}
-use Rattle.topo_model.specs.Step.{step}
-use Rattle.topo_model.specs.Replay.{replay, after, drawing_of, after_all, edits_of}
-use Rattle.topo_model.specs.Legal.{ids_within, journal_length, is_editor, is_entry, keeps_limits}
-use Rattle.topo_model.specs.InRange.{is_edit, is_in_range, is_spelled}
-use Rattle.topo_model.specs.Spelling.{number_bytes, entry_bytes}
-use Rattle.topo_model.specs.Answers.{Bounds}
-use Rattle.topo_model.specs.Run.{is_done}
-use Rattle.topo_model.specs.Journal.{IsFramed, next_gate, may_stand, AreEntries, IsBadAfter, IsClosed, StandsFor, IsBadAt}
-use Rattle.topo_model.proofs.Fronts.{number_front}
-use Rattle.topo_model.proofs.Spellings.{entry_front}
+use Rattle.drawing.specs.Drawing.{Drawing, nothing_drawn}
+use Rattle.drawing.specs.Outcome.{Outcome}
+use Rattle.drawing.specs.Step.{step}
+use Rattle.drawing.specs.Replay.{replay, after, drawing_of, after_all, edits_of}
+use Rattle.drawing.specs.Accepted.{ids_within, is_editor, is_entry, keeps_limits}
+use Rattle.history_model.specs.Legal.{journal_length}
+use Rattle.drawing.specs.InRange.{is_edit, is_in_range, is_spelled}
+use Rattle.history_model.specs.Spelling.{number_bytes, entry_bytes}
+use Rattle.history_model.specs.Answers.{Bounds}
+use Rattle.history_model.specs.Run.{is_done}
+use Rattle.history_model.specs.Journal.{IsFramed, next_gate, may_stand, AreEntries, IsBadAfter, IsClosed, StandsFor, IsBadAt}
+use Rattle.history_model.proofs.Fronts.{number_front}
+use Rattle.history_model.proofs.Spellings.{entry_front}
 use Rattle.entry_codec.proofs.Lengths.{short_entry}
 use Rattle.topo_journal.specs.Bytes.{frame, frames, opening}
 use Rattle.topo_journal.specs.Entries.{spellings}

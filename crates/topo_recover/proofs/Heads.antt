@@ -2,8 +2,8 @@
 use Rattle.std.proofs.Common.{◌≡◌, ◌≢◌, ◌<◌, ◌≤◌, inl, inr, ⊎_elim, ℕ, true, false, List, [], ◌∷◌, ◌++◌, ◌==◌, length, take, drop, slice_index, codes, refl, sym, ◌∙◌, ap, subst, arith}
 use Rattle.std.proofs.lemmas.Bool.{true≢false}
 use Rattle.std.proofs.lemmas.Bool.Decides.{nat_tests}
-use Rattle.topo_model.specs.Answers.{Bounds}
-use Rattle.topo_model.specs.Journal.{IsHeaded, IsNoJournalYet, IsBadAt}
+use Rattle.history_model.specs.Answers.{Bounds}
+use Rattle.history_model.specs.Journal.{IsHeaded, IsNoJournalYet, IsBadAt}
 use Rattle.topo_journal.specs.Bytes.{opening}
 use Rattle.topo_journal.specs.Plain.{has_name}
 use Rattle.topo_journal.proofs.Parsed.{named}

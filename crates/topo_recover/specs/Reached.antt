@@ -2,9 +2,9 @@
 use Rattle.std.specs.Prelude.{◌≡◌, ◌≢◌, ℕ, List, [], ◌++◌, take, drop, slice_index, Result, IsErrOf}
 use Rattle.topo_base.specs.declared.edit.Entry.{Entry}
 use Rattle.topo_io.specs.Causes.{Rose}
-use Rattle.topo_model.specs.Replay.{replay}
-use Rattle.topo_model.specs.Answers.{Bounds}
-use Rattle.topo_model.specs.Journal.{AreEntries, IsBadAfter, IsNoJournalYet, StandsFor, IsBadAt}
+use Rattle.drawing.specs.Replay.{replay}
+use Rattle.history_model.specs.Answers.{Bounds}
+use Rattle.history_model.specs.Journal.{AreEntries, IsBadAfter, IsNoJournalYet, StandsFor, IsBadAt}
 use Rattle.topo_journal.specs.Bytes.{frames, opening}
 use Rattle.topo_journal.specs.Entries.{spellings}
 use Rattle.topo_recover.specs.declared.end.RecoverEnd.{RecoverEnd}

@@ -2,8 +2,8 @@
 use Rattle.std.specs.Prelude.{◌≡◌, ◌⊎◌, ℕ, ◌≤◌, Bool, false, List}
 use Rattle.topo_base.specs.declared.edit.Entry.{Entry}
 use Rattle.topo_disk.specs.Disk.{LeavesOnly, Only}
-use Rattle.topo_model.specs.Answers.{Bounds}
-use Rattle.topo_model.specs.Journal.{StandsFor}
+use Rattle.history_model.specs.Answers.{Bounds}
+use Rattle.history_model.specs.Journal.{StandsFor}
 
 -- from a moment of the call on, each thing that a crash leaves stands for the history, and so does what a read gives
 pub record StandsSince {D : Type 0} (moment : D → ℕ) (seen : D → List ℕ) (left_since : D → ℕ → List ℕ → Type 0) (m : Bounds) (old new : D) (t : ℕ) (history : List Entry) : Type 0 where

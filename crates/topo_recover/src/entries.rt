@@ -1,11 +1,11 @@
 ghost use Rattle.std.specs.Prelude.{◌≡◌, ◌≢◌, ◌<◌, ◌≤◌, ◌==◌, if◌then◌else◌, ◌+◌, ◌^◌, ◌∷◌, [], ◌++◌, ℕ, List, length, take, drop, slice_index, IsTrue, IfOk, IfErr, IfSome, Ok, None};
 ghost use Rattle.topo_base.specs.declared.edit.Entry.{Entry};
 ghost use Rattle.topo_io.specs.Causes.{HasCause};
-ghost use Rattle.topo_model.specs.InRange.{is_spelled};
-ghost use Rattle.topo_model.specs.Legal.{journal_length};
-ghost use Rattle.topo_model.specs.Spelling.{number_bytes, entry_bytes};
-ghost use Rattle.topo_model.specs.Journal.{IsFramed, IsBadAt};
-ghost use Rattle.topo_model.specs.Run.{is_done};
+ghost use Rattle.drawing.specs.InRange.{is_spelled};
+ghost use Rattle.history_model.specs.Legal.{journal_length};
+ghost use Rattle.history_model.specs.Spelling.{number_bytes, entry_bytes};
+ghost use Rattle.history_model.specs.Journal.{IsFramed, IsBadAt};
+ghost use Rattle.history_model.specs.Run.{is_done};
 ghost use Rattle.topo_desk.specs.Verdict.{verdict};
 ghost use Rattle.topo_recover.specs.declared.end.RecoverEnd.TheVariants.{NoJournal};
 ghost use Rattle.topo_recover.specs.Reached.{IsReadTo, HasEnded};

@@ -1,6 +1,6 @@
 ghost use Rattle.std.specs.Prelude.{◌≡◌, ◌<◌, ◌≤◌, ◌==◌, ◌+◌, length, take, drop, slice_index, IfOk};
 ghost use Rattle.topo_io.specs.Causes.{HasCause};
-ghost use Rattle.topo_model.specs.Spelling.{number_bytes};
+ghost use Rattle.history_model.specs.Spelling.{number_bytes};
 
 use topo_disk::{Disk, Failed};
 use topo_journal::Begun;

@@ -1,7 +1,7 @@
 ghost use Rattle.std.specs.Prelude.{◌≡◌, ◌<◌, ◌≤◌, ◌^◌, ℕ, List, [], length, false, IfOk, IfErr};
 ghost use Rattle.topo_io.specs.Causes.{Rose};
-ghost use Rattle.topo_model.specs.Answers.{Bounds};
-ghost use Rattle.topo_model.specs.Journal.{StandsFor, IsBadAt, IsNoJournalYet};
+ghost use Rattle.history_model.specs.Answers.{Bounds};
+ghost use Rattle.history_model.specs.Journal.{StandsFor, IsBadAt, IsNoJournalYet};
 ghost use Rattle.topo_journal.specs.Kept.{start_of};
 ghost use Rattle.topo_desk.specs.Boarded.{bounds_of};
 ghost use Rattle.topo_recover.specs.declared.end.RecoverEnd.TheVariants.{NoJournal, DiskFault};

@@ -4,9 +4,9 @@ use Rattle.std.specs.Option.{option_copied}
 use Rattle.std.specs.Prelude.{is_some, is_ok, if◌then◌else◌}
 use Rattle.std.specs.List.{slice_index_or}
 use Rattle.std.proofs.lemmas.Option.{slice_get_within, get_or_from_slice_get}
-use Rattle.topo_model.specs.Rows.{row_at, has_row, without_row, with_change}
-use Rattle.topo_model.specs.Places.{rows_of}
-use Rattle.topo_model.proofs.RowLemmas.{is_some-row_at, Stands, has_row-stands, rows_of-without, rows_of-change, IsInPlace-emptied, IsInPlace-changed, IsInPlace-append}
+use Rattle.drawing.specs.Rows.{row_at, has_row, without_row, with_change}
+use Rattle.drawing.specs.Places.{rows_of}
+use Rattle.drawing.proofs.RowLemmas.{is_some-row_at, Stands, has_row-stands, rows_of-without, rows_of-change, IsInPlace-emptied, IsInPlace-changed, IsInPlace-append}
 use Rattle.topo_tables.specs.Placed.{IsPlaced}
 
 pub stands_in : {R : Type 0} (id : R → ℕ) (places : List (Option R)) (rows : List R) (n : ℕ) → IsPlaced id places → rows_of places ≡ rows → IsTrue (has_row id rows n) → Stands places n

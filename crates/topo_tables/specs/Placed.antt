@@ -1,6 +1,6 @@
 -- A table that keeps each row at the place of its id.
 use Rattle.std.specs.Prelude.{ℕ, ◌+◌, ◌<◌, ◌^◌, List, Option, length}
-use Rattle.topo_model.specs.Places.{IsInPlace}
+use Rattle.drawing.specs.Places.{IsInPlace}
 
 -- the rows ascending by id, the next id, and for how many rows more there is room
 pub record Placed (R : Type 0) : Type 0 where

@@ -1,7 +1,7 @@
 // The changes of rows.
 ghost use Rattle.std.specs.Prelude.{◌≡◌, refl};
-ghost use Rattle.topo_model.specs.Writes.{with_next, with_side};
-ghost use Rattle.topo_model.proofs.RowLemmas.{next-id, side-id};
+ghost use Rattle.drawing.specs.Writes.{with_next, with_side};
+ghost use Rattle.drawing.proofs.RowLemmas.{next-id, side-id};
 
 use crate::row::Change;
 use topo_base::{Box4, Dart, EdgeRow, FaceId, FaceRow, Grid, Hand, Line, NodeId, NodeRow};

@@ -1,7 +1,7 @@
 ghost use Rattle.std.specs.Prelude.{◌≡◌, ◌+◌, ◌<◌, ◌≤◌, ◌^◌, ◌∷◌, [], ◌++◌, IsTrue, OnOk, IfOk};
 ghost use Rattle.std.specs.Option.{option_copied};
-ghost use Rattle.topo_model.specs.Rows.{row_at, has_row, without_row, with_change};
-ghost use Rattle.topo_model.specs.Places.{rows_of, at_place};
+ghost use Rattle.drawing.specs.Rows.{row_at, has_row, without_row, with_change};
+ghost use Rattle.drawing.specs.Places.{rows_of, at_place};
 
 use crate::row::{Change, Row};
 use std::alloc::Global;
@@ -18,7 +18,7 @@ pub struct Places<R: Row + Drop> {
 
 impl<R: Row + Drop> Model for Places<R> {
     ghost use Rattle.std.specs.Prelude.{◌+◌, ◌-◌, length, vec_len, vec_capacity};
-    ghost use Rattle.topo_model.specs.Places.{rows_of};
+    ghost use Rattle.drawing.specs.Places.{rows_of};
     ghost use Rattle.topo_tables.specs.Placed.{Placed, IsPlaced};
 
     ghost Value = { Placed R };

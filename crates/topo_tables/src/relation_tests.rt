@@ -2,8 +2,8 @@
 
 ghost use Rattle.std.specs.Prelude.{◌≡◌, ◌<◌};
 ghost use Rattle.std.specs.List.{list_any};
-ghost use Rattle.topo_model.specs.Relations.{same_row};
-ghost use Rattle.topo_model.specs.Writable.{has_feature_row, has_layer_row};
+ghost use Rattle.drawing.specs.Relations.{same_row};
+ghost use Rattle.drawing.specs.Writable.{has_feature_row, has_layer_row};
 
 use crate::relations::is_same;
 use crate::{Tables, Writes};

@@ -1,7 +1,7 @@
 // Relation rows in their order: by feature, then type, then element.
 ghost use Rattle.std.specs.Prelude.{◌≡◌, ◌+◌, ◌-◌, ◌<◌, ◌≤◌, not, filter, length, vec_len, vec_capacity, IfSome, IfNone};
 ghost use Rattle.std.specs.List.{insert};
-ghost use Rattle.topo_model.specs.Relations.{insert_row, row_before, same_row};
+ghost use Rattle.drawing.specs.Relations.{insert_row, row_before, same_row};
 
 use topo_base::RelationRow;
 

@@ -1,6 +1,6 @@
 ghost use Rattle.std.specs.Prelude.{◌≡◌, ℕ, IfOk};
-ghost use Rattle.topo_model.specs.Drawing.{node_id_of, layer_id_of, feature_id_of};
-ghost use Rattle.topo_model.specs.Writes.{edge_row_id, face_row_id};
+ghost use Rattle.drawing.specs.Drawing.{node_id_of, layer_id_of, feature_id_of};
+ghost use Rattle.drawing.specs.Writes.{edge_row_id, face_row_id};
 
 use std::alloc::Global;
 use topo_base::{EdgeRow, FaceRow, FeatureRow, LayerRow, Memory, NodeRow};

@@ -3,11 +3,11 @@ ghost use Rattle.std.specs.List.{list_any};
 ghost use Rattle.std.specs.Option.{option_copied};
 ghost use Rattle.topo_base.specs.Point.{same_point};
 ghost use Rattle.topo_base.specs.declared.rows.NodeRow.{NodeRow as NodeValue};
-ghost use Rattle.topo_model.specs.Drawing.{nothing_drawn, node_id_of, layer_id_of, feature_id_of, has_face};
-ghost use Rattle.topo_model.specs.Places.{rows_of, in_slot};
-ghost use Rattle.topo_model.specs.Rows.{row_at};
-ghost use Rattle.topo_model.specs.Writes.{edge_row_id, face_row_id, with_node_row};
-ghost use Rattle.topo_model.specs.Tables.{tables_of, drawn, universal_face};
+ghost use Rattle.drawing.specs.Drawing.{nothing_drawn, node_id_of, layer_id_of, feature_id_of, has_face};
+ghost use Rattle.drawing.specs.Places.{rows_of, in_slot};
+ghost use Rattle.drawing.specs.Rows.{row_at};
+ghost use Rattle.drawing.specs.Writes.{edge_row_id, face_row_id, with_node_row};
+ghost use Rattle.drawing.specs.Tables.{tables_of, drawn, universal_face};
 
 use crate::places::Places;
 use std::alloc::Global;
@@ -36,7 +36,7 @@ pub struct Tables {
 
 impl Model for Tables {
     ghost use Rattle.std.specs.Prelude.{◌≡◌, ◌∷◌, ◌-◌, vec_len, vec_capacity};
-    ghost use Rattle.topo_model.specs.Tables.{universal_face};
+    ghost use Rattle.drawing.specs.Tables.{universal_face};
     ghost use Rattle.topo_tables.specs.Room.{Held};
 
     ghost Value = { Held };

@@ -1,7 +1,7 @@
 // One change of one row.
 ghost use Rattle.std.specs.Prelude.{◌≡◌, ℕ, ◌≤◌, ◌+◌, ◌<◌, ◌∷◌, [], option_map};
-ghost use Rattle.topo_model.specs.Writable.{IsOld, IsOldIfAny, CanWrite};
-ghost use Rattle.topo_model.specs.Writes.{id_number, dart_named, row_named, written};
+ghost use Rattle.drawing.specs.Writable.{IsOld, IsOldIfAny, CanWrite};
+ghost use Rattle.drawing.specs.Writes.{id_number, dart_named, row_named, written};
 ghost use Rattle.topo_tables.specs.Room.{HasRoom, LeavesRoom};
 ghost use Rattle.topo_base.specs.declared.rows.Counters.{Counters as NextIds};
 

@@ -1,6 +1,6 @@
 ghost use Rattle.std.specs.Prelude.{◌≡◌, ◌+◌, ◌*◌, ◌≤◌, length};
-ghost use Rattle.topo_model.specs.Writable.{CanWriteAll};
-ghost use Rattle.topo_model.specs.Writes.{all_written};
+ghost use Rattle.drawing.specs.Writable.{CanWriteAll};
+ghost use Rattle.drawing.specs.Writes.{all_written};
 ghost use Rattle.topo_tables.specs.Room.{HasRoom};
 
 use crate::tables::Tables;

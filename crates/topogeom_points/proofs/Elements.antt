@@ -8,13 +8,13 @@ use Rattle.topo_base.specs.declared.edit.Pair.{Pair}
 use Rattle.topo_base.specs.declared.rows.LayerRow.{LayerRow}
 use Rattle.topo_base.specs.declared.rule.Rule.{Rule}
 use Rattle.topo_base.specs.declared.rule.Rule.TheVariants.{ElementListed}
-use Rattle.topo_model.specs.Drawing.{Drawing, edge_id_of, has_edge}
-use Rattle.topo_model.specs.Layers.{element_rule, elements_rule, missing, or_else, same_pair}
-use Rattle.topo_model.specs.Rows.{has_row, row_at}
-use Rattle.topo_model.specs.Tables.{Tables, drawn, drawn_edge}
-use Rattle.topo_model.specs.Writes.{edge_row_id}
-use Rattle.topo_model.proofs.RowLemmas.{is_some-row_at}
-use Rattle.topo_model.proofs.TableLemmas.{list_any-map}
+use Rattle.drawing.specs.Drawing.{Drawing, edge_id_of, has_edge}
+use Rattle.drawing.specs.Layers.{element_rule, elements_rule, missing, or_else, same_pair}
+use Rattle.drawing.specs.Rows.{has_row, row_at}
+use Rattle.drawing.specs.Tables.{Tables, drawn, drawn_edge}
+use Rattle.drawing.specs.Writes.{edge_row_id}
+use Rattle.drawing.proofs.RowLemmas.{is_some-row_at}
+use Rattle.drawing.proofs.TableLemmas.{list_any-map}
 
 -- ---- a row is there
 is_some-copied : {R : Type 0} (found : Option (Bor R)) → is_some found ≡ is_some (option_copied found)

@@ -12,17 +12,17 @@ use Rattle.topo_base.specs.declared.rows.LayerRow.{LayerRow}
 use Rattle.topo_base.specs.declared.rows.RelationRow.{RelationRow}
 use Rattle.topo_base.specs.declared.write.RowId.TheVariants.{Old}
 use Rattle.topo_base.specs.declared.write.RowWrite.TheVariants.{AddFeature}
-use Rattle.topo_model.specs.Drawing.{Drawing, feature_id_of}
-use Rattle.topo_model.specs.Layers.{row_for}
-use Rattle.topo_model.specs.Edits.{with_feature}
-use Rattle.topo_model.specs.Outcome.{the_feature}
-use Rattle.topo_model.specs.Relations.{insert_row, ordered, row_before, same_row}
-use Rattle.topo_model.specs.Rows.{has_row}
-use Rattle.topo_model.specs.Subdivision.{ascend_between, ids_in_order, is_row_known, references_known}
-use Rattle.topo_model.specs.Tables.{Tables, tables_of}
-use Rattle.topo_model.specs.Writable.{CanWriteAll, has_feature_row, has_layer_row}
-use Rattle.topo_model.specs.Writes.{all_written, written}
-use Rattle.topo_model.proofs.NameWords.{all_weaker}
+use Rattle.drawing.specs.Drawing.{Drawing, feature_id_of}
+use Rattle.drawing.specs.Layers.{row_for}
+use Rattle.drawing.specs.Edits.{with_feature}
+use Rattle.drawing.specs.Outcome.{the_feature}
+use Rattle.drawing.specs.Relations.{insert_row, ordered, row_before, same_row}
+use Rattle.drawing.specs.Rows.{has_row}
+use Rattle.drawing.specs.Subdivision.{ascend_between, ids_in_order, is_row_known, references_known}
+use Rattle.drawing.specs.Tables.{Tables, tables_of}
+use Rattle.drawing.specs.Writable.{CanWriteAll, has_feature_row, has_layer_row}
+use Rattle.drawing.specs.Writes.{all_written, written}
+use Rattle.plane.proofs.ListTests.{all_weaker}
 use Rattle.relation_rows.proofs.KnownFeatures.{known_row, references_parts}
 use Rattle.relation_rows.proofs.Order.{same_element, same_type}
 use Rattle.relation_rows.proofs.Putting.{AgreePairwise, AllAgree, adds, adds_puts, put_after, puts}

@@ -7,14 +7,14 @@ use Rattle.topo_base.specs.declared.rows.RelationRow.{RelationRow}
 use Rattle.topo_base.specs.declared.write.RowId.TheVariants.{Old}
 use Rattle.topo_base.specs.declared.write.RowWrite.{RowWrite}
 use Rattle.topo_base.specs.declared.write.RowWrite.TheVariants.{DropFeature}
-use Rattle.topo_model.specs.Drawing.{Drawing, feature_at, feature_id_of}
-use Rattle.topo_model.specs.Edits.{drop_feature}
-use Rattle.topo_model.specs.Outcome.{the_feature}
-use Rattle.topo_model.specs.Relations.{lists_feature, same_row}
-use Rattle.topo_model.specs.Rows.{without_row}
-use Rattle.topo_model.specs.Tables.{Tables, tables_of}
-use Rattle.topo_model.specs.Writable.{CanWriteAll, has_feature_row}
-use Rattle.topo_model.specs.Writes.{all_written}
+use Rattle.drawing.specs.Drawing.{Drawing, feature_at, feature_id_of}
+use Rattle.drawing.specs.Edits.{drop_feature}
+use Rattle.drawing.specs.Outcome.{the_feature}
+use Rattle.drawing.specs.Relations.{lists_feature, same_row}
+use Rattle.drawing.specs.Rows.{without_row}
+use Rattle.drawing.specs.Tables.{Tables, tables_of}
+use Rattle.drawing.specs.Writable.{CanWriteAll, has_feature_row}
+use Rattle.drawing.specs.Writes.{all_written}
 use Rattle.relation_rows.proofs.KnownFeatures.{references_parts}
 use Rattle.relation_rows.proofs.Order.{same_itself, same_topogeo}
 use Rattle.relation_rows.proofs.Putting.{AllAfter, Ascend, ascend_of, without, drop_same, drop_other, drop_none}

@@ -2,8 +2,8 @@
 use Rattle.std.specs.Prelude.{◌+◌, ◌<◌, ◌^◌, Bool, true, false, IsTrue}
 use Rattle.topo_base.specs.declared.edit.Edit.{Edit}
 use Rattle.topo_base.specs.declared.edit.Edit.TheVariants.{CreateTopoGeom, AddElement, RemElement, DropFeature}
-use Rattle.topo_model.specs.Drawing.{Drawing}
-use Rattle.topo_model.specs.Subdivision.{ids_in_order, references_known}
+use Rattle.drawing.specs.Drawing.{Drawing}
+use Rattle.drawing.specs.Subdivision.{ids_in_order, references_known}
 
 -- ids ascend and references are known; there is an id more for a feature
 pub record IsReady (S : Drawing) : Type 0 where

@@ -5,10 +5,10 @@ use Rattle.topo_base.specs.declared.rows.RelationRow.{RelationRow}
 use Rattle.topo_base.specs.declared.write.RowId.TheVariants.{Old}
 use Rattle.topo_base.specs.declared.write.RowWrite.{RowWrite}
 use Rattle.topo_base.specs.declared.write.RowWrite.TheVariants.{AddRow, DropRow}
-use Rattle.topo_model.specs.Drawing.{Drawing, feature_id_of}
-use Rattle.topo_model.specs.Outcome.{Outcome, the_feature}
-use Rattle.topo_model.specs.Relations.{insert_row, same_row}
-use Rattle.topo_model.specs.Rows.{without_row}
+use Rattle.drawing.specs.Drawing.{Drawing, feature_id_of}
+use Rattle.drawing.specs.Outcome.{Outcome, the_feature}
+use Rattle.drawing.specs.Relations.{insert_row, same_row}
+use Rattle.drawing.specs.Rows.{without_row}
 
 -- a row comes; a row goes; a feature goes with its rows
 abbrev pub row_more : Drawing → RelationRow → Outcome

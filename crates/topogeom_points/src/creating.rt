@@ -1,9 +1,9 @@
 // Features that come.
 ghost use Rattle.std.specs.Prelude.{◌≡◌, ◌+◌, ◌<◌, ◌^◌, ◌∷◌, ◌++◌, [], IfOk, IsTrue, OnOk, None};
-ghost use Rattle.topo_model.specs.Drawing.{layer_at};
-ghost use Rattle.topo_model.specs.Edits.{with_feature as feature_comes, create_topo_geom};
-ghost use Rattle.topo_model.specs.Tables.{drawn};
-ghost use Rattle.topo_model.specs.Writable.{has_layer_row};
+ghost use Rattle.drawing.specs.Drawing.{layer_at};
+ghost use Rattle.drawing.specs.Edits.{with_feature as feature_comes, create_topo_geom};
+ghost use Rattle.drawing.specs.Tables.{drawn};
+ghost use Rattle.drawing.specs.Writable.{has_layer_row};
 ghost use Rattle.layer_tree.specs.Answers.{AnswersOutcome, Follows};
 ghost use Rattle.topogeom_points.specs.Ready.{IsReady};
 ghost use Rattle.topogeom_points.specs.Rows.{rows_come as rows_of_pairs, row_write as write_of};

@@ -2,11 +2,11 @@
 ghost use Rattle.std.specs.Prelude.{◌≡◌, ◌==◌, ◌∷◌, ◌++◌, [], IfOk, IsTrue, filter, map};
 ghost use Rattle.std.specs.List.{list_any};
 ghost use Rattle.topo_base.specs.declared.rows.RelationRow.{RelationRow as RowValue};
-ghost use Rattle.topo_model.specs.Drawing.{feature_at};
-ghost use Rattle.topo_model.specs.Edits.{drop_feature as drops_feature};
-ghost use Rattle.topo_model.specs.Relations.{lists_feature as is_lister};
-ghost use Rattle.topo_model.specs.Tables.{drawn};
-ghost use Rattle.topo_model.specs.Writable.{has_feature_row};
+ghost use Rattle.drawing.specs.Drawing.{feature_at};
+ghost use Rattle.drawing.specs.Edits.{drop_feature as drops_feature};
+ghost use Rattle.drawing.specs.Relations.{lists_feature as is_lister};
+ghost use Rattle.drawing.specs.Tables.{drawn};
+ghost use Rattle.drawing.specs.Writable.{has_feature_row};
 ghost use Rattle.layer_tree.specs.Answers.{AnswersOutcome, Follows};
 ghost use Rattle.topogeom_points.specs.Ready.{IsReady};
 ghost use Rattle.topogeom_points.specs.Rows.{drop_write as write_of, feature_less, rows_go};

@@ -1,12 +1,12 @@
 // Elements that a feature lists, and lists no more.
 ghost use Rattle.std.specs.Prelude.{◌≡◌, IfOk, IsTrue, true};
 ghost use Rattle.std.specs.List.{list_any};
-ghost use Rattle.topo_model.specs.Drawing.{feature_at, layer_at};
-ghost use Rattle.topo_model.specs.Layers.{element_rule as rule_of_element, is_element_listed as is_listed_in, row_for};
-ghost use Rattle.topo_model.specs.Edits.{add_element as adds_element, rem_element as removes_element, with_element};
-ghost use Rattle.topo_model.specs.Relations.{same_row};
-ghost use Rattle.topo_model.specs.Tables.{drawn};
-ghost use Rattle.topo_model.specs.Writable.{has_feature_row, has_layer_row};
+ghost use Rattle.drawing.specs.Drawing.{feature_at, layer_at};
+ghost use Rattle.drawing.specs.Layers.{element_rule as rule_of_element, is_element_listed as is_listed_in, row_for};
+ghost use Rattle.drawing.specs.Edits.{add_element as adds_element, rem_element as removes_element, with_element};
+ghost use Rattle.drawing.specs.Relations.{same_row};
+ghost use Rattle.drawing.specs.Tables.{drawn};
+ghost use Rattle.drawing.specs.Writable.{has_feature_row, has_layer_row};
 ghost use Rattle.layer_tree.specs.Answers.{AnswersOutcome, Follows};
 ghost use Rattle.topogeom_points.specs.Rows.{row_less, row_more};
 

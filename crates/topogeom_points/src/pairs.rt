@@ -1,9 +1,9 @@
 // Which elements a feature of a layer may list.
 ghost use Rattle.std.specs.Prelude.{◌≡◌, ◌==◌, not, Some, []};
 ghost use Rattle.std.specs.List.{list_any};
-ghost use Rattle.topo_model.specs.Drawing.{feature_at, has_edge as has_edge_in, has_node as has_node_in};
-ghost use Rattle.topo_model.specs.Layers.{element_rule as rule_of_element, element_rule_on as rule_upon, elements_rule as rule_of_elements, is_feature_of as is_of_layer, missing as is_missing, missing_element as misses, or_else, same_pair};
-ghost use Rattle.topo_model.specs.Tables.{drawn};
+ghost use Rattle.drawing.specs.Drawing.{feature_at, has_edge as has_edge_in, has_node as has_node_in};
+ghost use Rattle.drawing.specs.Layers.{element_rule as rule_of_element, element_rule_on as rule_upon, elements_rule as rule_of_elements, is_feature_of as is_of_layer, missing as is_missing, missing_element as misses, or_else, same_pair};
+ghost use Rattle.drawing.specs.Tables.{drawn};
 
 use std::sync::ledger::Ledger;
 use topo_base::{EdgeId, FaceId, FeatureId, Kind, LayerId, LayerRow, NodeId, Pair, Rule, Steps};

@@ -1,7 +1,7 @@
 //! Edits of features of a town with two nodes, a layer of nodes, and a feature that lists the first node.
 
 ghost use Rattle.std.specs.Prelude.{◌≡◌, ◌<◌, ◌∷◌, ◌++◌, [], Some, None, OnOk, IfOk, IsTrue};
-ghost use Rattle.topo_model.specs.Tables.{drawn, tables_of};
+ghost use Rattle.drawing.specs.Tables.{drawn, tables_of};
 ghost use Rattle.topogeom_points.specs.Ready.{IsReady, is_planned};
 
 use crate::plan;

@@ -4,13 +4,13 @@ use Rattle.topo_base.specs.declared.edit.Edit.{Edit}
 use Rattle.topo_base.specs.declared.edit.Edit.TheVariants.{AddIsoNode, AddIsoEdge, AddEdgeModFace}
 use Rattle.topo_base.specs.declared.rows.NodeRow.{NodeRow}
 use Rattle.topo_base.specs.declared.rows.EdgeRow.{EdgeRow}
-use Rattle.topo_model.specs.Drawing.{Drawing, nothing_drawn}
-use Rattle.topo_model.specs.Outcome.{the_node, the_edge, the_face}
+use Rattle.drawing.specs.Drawing.{Drawing, nothing_drawn}
+use Rattle.drawing.specs.Outcome.{the_node, the_edge, the_face}
 use Rattle.topo_base.specs.declared.answer.Answer.{Answer}
 use Rattle.topo_base.specs.declared.answer.Answer.TheVariants.{Done}
-use Rattle.topo_model.specs.Replay.{answers, after_all}
-use Rattle.topo_model.specs.Tables.{tables_of}
-use Rattle.topo_model.specs.Subdivision.{is_consistent}
+use Rattle.drawing.specs.Replay.{answers, after_all}
+use Rattle.drawing.specs.Tables.{tables_of}
+use Rattle.drawing.specs.Subdivision.{is_consistent}
 use Rattle.topo_model.specs.examples.Rows.{at, way, node_line, edge_line}
 
 abbrev pub islands : List Edit

@@ -3,12 +3,12 @@ use Rattle.std.specs.Prelude.{◌≡◌, pos, List, [], ◌∷◌, Some, None, t
 use Rattle.topo_base.specs.declared.edit.Edit.{Edit}
 use Rattle.topo_base.specs.declared.edit.Edit.TheVariants.{AddIsoNode, MoveIsoNode, RemoveIsoNode, AddIsoEdge}
 use Rattle.topo_base.specs.declared.rule.Rule.TheVariants.{NoFace, NotIsolated, PointBlocked, LineBlocked, SameNode}
-use Rattle.topo_model.specs.Drawing.{Drawing, nothing_drawn}
-use Rattle.topo_model.specs.Outcome.{the_node, the_edge}
+use Rattle.drawing.specs.Drawing.{Drawing, nothing_drawn}
+use Rattle.drawing.specs.Outcome.{the_node, the_edge}
 use Rattle.topo_base.specs.declared.answer.Answer.{Answer}
 use Rattle.topo_base.specs.declared.answer.Answer.TheVariants.{Done, Refused}
-use Rattle.topo_model.specs.Replay.{answers, after_all}
-use Rattle.topo_model.specs.Subdivision.{is_consistent}
+use Rattle.drawing.specs.Replay.{answers, after_all}
+use Rattle.drawing.specs.Subdivision.{is_consistent}
 use Rattle.topo_model.specs.examples.Rows.{at}
 
 abbrev pub iso_rules : List Edit

@@ -3,12 +3,12 @@ use Rattle.std.specs.Prelude.{◌≡◌, pos, List, [], ◌∷◌, None, true, c
 use Rattle.topo_base.specs.declared.edit.Edit.{Edit}
 use Rattle.topo_base.specs.declared.edit.Edit.TheVariants.{AddIsoNode, AddEdgeModFace, RemEdgeModFace, ModEdgeSplit, AddLayer, CreateTopoGeom}
 use Rattle.topo_base.specs.declared.kind.Kind.TheVariants.{Areal}
-use Rattle.topo_model.specs.Drawing.{Drawing, nothing_drawn}
-use Rattle.topo_model.specs.Outcome.{the_node, the_edge, the_face, the_layer, the_feature}
+use Rattle.drawing.specs.Drawing.{Drawing, nothing_drawn}
+use Rattle.drawing.specs.Outcome.{the_node, the_edge, the_face, the_layer, the_feature}
 use Rattle.topo_base.specs.declared.answer.Answer.{Answer}
 use Rattle.topo_base.specs.declared.answer.Answer.TheVariants.{Done}
-use Rattle.topo_model.specs.Replay.{answers, after_all}
-use Rattle.topo_model.specs.Subdivision.{is_consistent}
+use Rattle.drawing.specs.Replay.{answers, after_all}
+use Rattle.drawing.specs.Subdivision.{is_consistent}
 use Rattle.topo_model.specs.examples.Rows.{at, pair, relation_line}
 
 abbrev pub parcel_restored : List Edit

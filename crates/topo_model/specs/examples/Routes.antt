@@ -4,13 +4,13 @@ use Rattle.topo_base.specs.declared.edit.Edit.{Edit}
 use Rattle.topo_base.specs.declared.edit.Edit.TheVariants.{AddIsoNode, AddEdgeModFace, ModEdgeSplit, AddLayer, CreateTopoGeom, DropFeature}
 use Rattle.topo_base.specs.declared.rule.Rule.TheVariants.{FeatureUsed}
 use Rattle.topo_base.specs.declared.kind.Kind.TheVariants.{Lineal}
-use Rattle.topo_model.specs.Drawing.{Drawing, nothing_drawn}
-use Rattle.topo_model.specs.Outcome.{the_node, the_edge, the_layer, the_feature}
+use Rattle.drawing.specs.Drawing.{Drawing, nothing_drawn}
+use Rattle.drawing.specs.Outcome.{the_node, the_edge, the_layer, the_feature}
 use Rattle.topo_base.specs.declared.answer.Answer.{Answer}
 use Rattle.topo_base.specs.declared.answer.Answer.TheVariants.{Done, Refused}
-use Rattle.topo_model.specs.Replay.{answers, after_all}
-use Rattle.topo_model.specs.Descent.{elements_of}
-use Rattle.topo_model.specs.Subdivision.{is_consistent}
+use Rattle.drawing.specs.Replay.{answers, after_all}
+use Rattle.drawing.specs.Descent.{elements_of}
+use Rattle.drawing.specs.Subdivision.{is_consistent}
 use Rattle.topo_model.specs.examples.Rows.{at, pair}
 
 abbrev pub routes : List Edit

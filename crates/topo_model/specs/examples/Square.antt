@@ -5,14 +5,14 @@ use Rattle.topo_base.specs.declared.edit.Edit.TheVariants.{AddIsoNode, AddEdgeMo
 use Rattle.topo_base.specs.declared.edit.Entry.{Entry}
 use Rattle.topo_base.specs.declared.rule.Rule.TheVariants.{LineBlocked}
 use Rattle.topo_base.specs.declared.element.Element.TheVariants.{Drawing as TheDrawing}
-use Rattle.topo_model.specs.Outcome.{the_node, the_edge, the_face}
-use Rattle.topo_model.specs.Replay.{replay}
-use Rattle.topo_model.specs.Stamps.{stamp}
-use Rattle.topo_model.specs.Reads.{reads}
-use Rattle.topo_model.specs.Legal.{is_legal, journal_length}
+use Rattle.drawing.specs.Outcome.{the_node, the_edge, the_face}
+use Rattle.drawing.specs.Replay.{replay}
+use Rattle.drawing.specs.Stamps.{stamp}
+use Rattle.history_model.specs.Reads.{reads}
+use Rattle.history_model.specs.Legal.{is_legal, journal_length}
 use Rattle.topo_base.specs.declared.answer.Answer.TheVariants.{Done, Refused, Stale}
-use Rattle.topo_model.specs.Answers.{Bounds}
-use Rattle.topo_model.specs.Core.{State, Look, Commit, Tell, after_event, commit_answer, may_run}
+use Rattle.history_model.specs.Answers.{Bounds}
+use Rattle.history_model.specs.Core.{State, Look, Commit, Tell, after_event, commit_answer, may_run}
 use Rattle.topo_model.specs.examples.Rows.{at}
 
 abbrev pub square : List Entry

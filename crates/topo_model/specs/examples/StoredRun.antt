@@ -2,10 +2,10 @@
 use Rattle.std.specs.Prelude.{◌≡◌, pos, [], ◌∷◌, ◌++◌, flat_map, None, codes}
 use Rattle.topo_base.specs.declared.edit.Edit.TheVariants.{AddIsoNode}
 use Rattle.topo_base.specs.declared.edit.Entry.{Entry}
-use Rattle.topo_model.specs.Drawing.{nothing_drawn}
-use Rattle.topo_model.specs.Replay.{answers, after_all}
-use Rattle.topo_model.specs.Spelling.{frame_bytes}
-use Rattle.topo_model.specs.Texts.{reply_text, tables_text, features_text, history_text}
+use Rattle.drawing.specs.Drawing.{nothing_drawn}
+use Rattle.drawing.specs.Replay.{answers, after_all}
+use Rattle.history_model.specs.Spelling.{frame_bytes}
+use Rattle.script_model.specs.Texts.{reply_text, tables_text, features_text, history_text}
 use Rattle.topo_model.specs.examples.Rows.{at}
 use Rattle.topo_model.specs.examples.Triangle.{triangle}
 use Rattle.topo_model.specs.examples.Routes.{routes}

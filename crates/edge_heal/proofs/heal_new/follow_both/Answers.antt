@@ -1,6 +1,6 @@
 use Rattle.std.proofs.Common.{[], ◌∷◌, ap, ◌∙◌}
 use Rattle.std.proofs.lemmas.Result.{on_ok_weaker}
-use Rattle.topo_model.specs.Tables.{Tables}
+use Rattle.drawing.specs.Tables.{Tables}
 use Rattle.edge_heal.specs.NewHeal.{listed_anew}
 use Rattle.edge_heal.proofs.NewHealDrafts.{listed_both}
 use Rattle.edge_heal.proofs.heal_new.follow_both.Goals as goal

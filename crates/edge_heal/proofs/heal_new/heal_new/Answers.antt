@@ -1,4 +1,4 @@
-use Rattle.topo_model.specs.Tables.{drawn, drawn_edge}
+use Rattle.drawing.specs.Tables.{drawn, drawn_edge}
 use Rattle.edge_heal.proofs.NewHealDrafts.{knows_healed, new_heal_edited}
 use Rattle.edge_heal.proofs.heal_new.heal_new.Goals as goal
 

@@ -1,5 +1,5 @@
 use Rattle.std.proofs.Common.{ap, ◌∙◌}
-use Rattle.topo_model.specs.Tables.{Tables, drawn}
+use Rattle.drawing.specs.Tables.{Tables, drawn}
 use Rattle.read_set.specs.Drafted.{Drafted}
 use Rattle.edge_heal.proofs.HealJoint.{meeting}
 use Rattle.edge_heal.proofs.NewHealDrafts.{new_heal_after, new_heal_may}

@@ -1,5 +1,5 @@
 use Rattle.std.proofs.Common.{refl}
-use Rattle.topo_model.specs.Tables.{drawn, drawn_edge}
+use Rattle.drawing.specs.Tables.{drawn, drawn_edge}
 use Rattle.edge_heal.specs.HealWrites.{mod_heal_in}
 use Rattle.edge_heal.proofs.HealDrafts.{heal_edited}
 use Rattle.edge_heal.proofs.SplitDrafts.{has_features}

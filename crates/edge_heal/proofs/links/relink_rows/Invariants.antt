@@ -1,5 +1,5 @@
 use Rattle.std.proofs.Common.{◌≡◌, ◌++◌, drop}
-use Rattle.topo_model.specs.Places.{rows_of}
+use Rattle.drawing.specs.Places.{rows_of}
 use Rattle.edge_heal.specs.Writes.{all_relinks}
 use Rattle.edge_heal.proofs.links.relink_rows.Given as goal
 

@@ -1,5 +1,5 @@
 use Rattle.std.proofs.Common.{rules, sym, ◌∙◌}
-use Rattle.topo_model.specs.Tables.{drawn, drawn_edge}
+use Rattle.drawing.specs.Tables.{drawn, drawn_edge}
 use Rattle.edge_heal.specs.Splitting.{done_by}
 use Rattle.edge_heal.proofs.SplitPlans.{accepted, cut_there, no_edge, not_on_edge, proper_there, want_of_memory}
 use Rattle.edge_heal.proofs.planning.split_edge.Goals as goal

@@ -1,5 +1,5 @@
 use Rattle.std.proofs.Common.{rules, sym, ◌∙◌}
-use Rattle.topo_model.specs.Tables.{drawn, drawn_edge}
+use Rattle.drawing.specs.Tables.{drawn, drawn_edge}
 use Rattle.edge_heal.specs.Healing.{heal_done_by}
 use Rattle.edge_heal.proofs.HealPlans.{accepted}
 use Rattle.edge_heal.proofs.SplitPlans.{want_of_memory}

@@ -1,5 +1,5 @@
-use Rattle.topo_model.specs.Drawing.{edge_at}
-use Rattle.topo_model.specs.Tables.{drawn, drawn_edge}
+use Rattle.drawing.specs.Drawing.{edge_at}
+use Rattle.drawing.specs.Tables.{drawn, drawn_edge}
 use Rattle.edge_heal.proofs.HealPlans.{answers_rows, edge_named, first_missing, row_there, second_missing}
 use Rattle.edge_heal.proofs.rules.heal_edges.Goals as goal
 

@@ -1,5 +1,5 @@
 use Rattle.std.proofs.Common.{ap, ◌∙◌}
-use Rattle.topo_model.specs.Tables.{Tables, drawn}
+use Rattle.drawing.specs.Tables.{Tables, drawn}
 use Rattle.read_set.specs.Drafted.{Drafted}
 use Rattle.edge_heal.proofs.SplitDrafts.{line_is_simple, mod_may, mod_rows}
 use Rattle.edge_heal.proofs.splitting.split_mod_draft.Goals as goal

@@ -1,4 +1,4 @@
-use Rattle.topo_model.specs.Places.{rows_of}
+use Rattle.drawing.specs.Places.{rows_of}
 use Rattle.edge_heal.proofs.SplitLists.{mod_joined}
 use Rattle.edge_heal.proofs.writes.mod_writes.Goals as goal
 

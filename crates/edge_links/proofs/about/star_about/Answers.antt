@@ -1,9 +1,9 @@
 use Rattle.std.proofs.Common.{◌≡◌, List, map, subst, ◌∙◌, ap}
 use Rattle.std.specs.Prelude.{IfOk, flat_map}
 use Rattle.topo_base.specs.declared.rows.EdgeRow.{EdgeRow}
-use Rattle.topo_model.specs.HalfEdge.{both_ways}
-use Rattle.topo_model.specs.Star.{star}
-use Rattle.topo_model.specs.Tables.{Tables, drawn, drawn_edge}
+use Rattle.drawing.specs.HalfEdge.{both_ways}
+use Rattle.drawing.specs.Star.{star}
+use Rattle.drawing.specs.Tables.{Tables, drawn, drawn_edge}
 use Rattle.edge_links.specs.Rays.{Rays, rays_of}
 use Rattle.edge_links.proofs.RayLemmas.{proper_slots}
 use Rattle.edge_links.proofs.RightLinks.{made_in_order}

@@ -1,5 +1,5 @@
 use Rattle.std.proofs.Common.{◌≡◌, ◌-◌, ◌+◌, ◌<◌, ◌≤◌, length, drop, ◌∙◌, ap, arith}
-use Rattle.topo_model.specs.Star.{star}
+use Rattle.drawing.specs.Star.{star}
 use Rattle.edge_links.specs.Rays.{rays_of}
 use Rattle.edge_links.proofs.RayLemmas.{half_edges_of, slot_seen}
 use Rattle.edge_links.proofs.about.star_among.Goals as goal

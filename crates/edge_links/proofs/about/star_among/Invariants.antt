@@ -1,5 +1,5 @@
 use Rattle.std.proofs.Common.{◌≡◌, ◌≤◌, length, drop}
-use Rattle.topo_model.specs.Star.{star}
+use Rattle.drawing.specs.Star.{star}
 use Rattle.edge_links.specs.Rays.{rays_of}
 use Rattle.edge_links.proofs.RayLemmas.{half_edges_of}
 use Rattle.edge_links.proofs.about.star_among.Given as goal

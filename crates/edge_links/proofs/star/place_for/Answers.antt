@@ -1,6 +1,6 @@
 use Rattle.std.proofs.Common.{sym, ◌∙◌}
-use Rattle.topo_model.specs.Direction.{is_nearer, straight_up}
-use Rattle.topo_model.specs.Wedge.{no_direction}
+use Rattle.plane.specs.Direction.{is_nearer, straight_up}
+use Rattle.plane.specs.Wedge.{no_direction}
 use Rattle.edge_links.proofs.Places.{first_at, none_yet, none_at_all}
 use Rattle.edge_links.proofs.star.place_for.Goals as goal
 

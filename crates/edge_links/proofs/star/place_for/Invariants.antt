@@ -1,6 +1,6 @@
 use Rattle.std.proofs.Common.{◌≡◌, ℕ, ◌<◌, false, get_or}
-use Rattle.topo_model.specs.Direction.{is_nearer, straight_up}
-use Rattle.topo_model.specs.Wedge.{no_direction}
+use Rattle.plane.specs.Direction.{is_nearer, straight_up}
+use Rattle.plane.specs.Wedge.{no_direction}
 use Rattle.edge_links.proofs.star.place_for.Given as goal
 
 -- none of those before this index comes after the direction

@@ -1,7 +1,7 @@
 use Rattle.std.proofs.Common.{◌∙◌, ◌+◌, ◌*◌, ap, arith, length, List}
 use Rattle.topo_base.specs.declared.rows.NodeRow.{NodeRow}
-use Rattle.topo_model.specs.LinePoints.{has_proper_segments}
-use Rattle.topo_model.specs.Places.{rows_of}
+use Rattle.plane.specs.LinePoints.{has_proper_segments}
+use Rattle.drawing.specs.Places.{rows_of}
 use Rattle.edit_conditions.proofs.RowTests.{same_fit, sum_same}
 use Rattle.edit_conditions.proofs.conditions.holds_node.Goals as goal
 

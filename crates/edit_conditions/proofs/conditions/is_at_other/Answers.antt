@@ -1,5 +1,5 @@
 use Rattle.std.proofs.Common.{ap, length, arith}
-use Rattle.topo_model.specs.Places.{rows_of}
+use Rattle.drawing.specs.Places.{rows_of}
 use Rattle.edit_conditions.proofs.RowTests.{sum_ones, all_fit}
 use Rattle.edit_conditions.proofs.conditions.is_at_other.Goals as goal
 

@@ -1,8 +1,8 @@
 use Rattle.std.proofs.Common.{◌≡◌, ◌∙◌, sym, ap, drop, List, true}
 use Rattle.std.specs.List.{list_any}
 use Rattle.topo_base.specs.declared.rows.RelationRow.{RelationRow}
-use Rattle.topo_model.specs.Relations.{lists_element}
-use Rattle.topo_model.specs.Tables.{drawn}
+use Rattle.drawing.specs.Relations.{lists_element}
+use Rattle.drawing.specs.Tables.{drawn}
 use Rattle.edit_conditions.proofs.IsolatedTests.{in_feature_is}
 use Rattle.edit_conditions.proofs.RowTests.{any_at, dropped}
 use Rattle.edit_conditions.proofs.conditions.is_in_feature.Goals as goal

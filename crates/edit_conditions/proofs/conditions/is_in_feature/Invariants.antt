@@ -1,7 +1,7 @@
 use Rattle.std.proofs.Common.{◌≡◌, ◌+◌, ◌*◌, ◌≤◌, drop}
 use Rattle.std.specs.List.{list_any}
-use Rattle.topo_model.specs.Relations.{lists_element}
-use Rattle.topo_model.specs.Tables.{drawn}
+use Rattle.drawing.specs.Relations.{lists_element}
+use Rattle.drawing.specs.Tables.{drawn}
 use Rattle.edit_conditions.proofs.conditions.is_in_feature.Given as goal
 
 -- no row before this one lists the element

@@ -1,8 +1,8 @@
 use Rattle.std.proofs.Common.{◌∙◌, ap}
 use Rattle.std.specs.List.{list_all}
 use Rattle.topo_base.specs.declared.rows.EdgeRow.{EdgeRow}
-use Rattle.topo_model.specs.LinePoints.{has_proper_segments}
-use Rattle.topo_model.specs.Places.{rows_of}
+use Rattle.plane.specs.LinePoints.{has_proper_segments}
+use Rattle.drawing.specs.Places.{rows_of}
 use Rattle.edit_conditions.proofs.RowTests.{both_fit, proper_rows, meets_rows}
 use Rattle.edit_conditions.proofs.conditions.meets_edge.Goals as goal
 

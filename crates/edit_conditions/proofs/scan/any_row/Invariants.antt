@@ -1,6 +1,6 @@
 use Rattle.std.proofs.Common.{◌≡◌, ◌+◌, ◌≤◌, IsTrue, drop}
 use Rattle.std.specs.List.{list_any, list_all, sum_by}
-use Rattle.topo_model.specs.Places.{rows_of}
+use Rattle.drawing.specs.Places.{rows_of}
 use Rattle.edit_conditions.proofs.scan.any_row.Given as goal
 
 -- no row before this place meets the test

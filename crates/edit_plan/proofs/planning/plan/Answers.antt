@@ -1,4 +1,4 @@
-use Rattle.topo_model.specs.Tables.{drawn}
+use Rattle.drawing.specs.Tables.{drawn}
 use Rattle.edit_plan.proofs.Readying.{ready_for_isolated}
 use Rattle.edit_plan.proofs.planning.plan.Goals as goal
 

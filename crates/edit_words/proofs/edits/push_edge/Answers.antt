@@ -1,8 +1,8 @@
 use Rattle.std.proofs.Common.{◌≡◌, ℕ, List, ◌++◌, ◌∷◌, [], subst, ap, ◌∙◌, OnOk}
 use Rattle.std.specs.Fmt.{decimal}
 use Rattle.std.specs.List.{join_with_byte}
-use Rattle.topo_model.specs.Words.{spaced, line_words}
-use Rattle.topo_model.proofs.Lines.{join-more}
+use Rattle.script_model.specs.Words.{spaced, line_words}
+use Rattle.script_model.proofs.Lines.{join-more}
 use Rattle.edit_words.proofs.edits.push_edge.Goals as goal
 
 pub returns : goal.returns

@@ -1,8 +1,8 @@
 use Rattle.std.proofs.Common.{◌≡◌, ℕ, List, ◌++◌, ◌∷◌, [], subst, ap, ◌∙◌, OnOk}
 use Rattle.std.specs.Prelude.{codes, flat_map}
 use Rattle.std.specs.Fmt.{decimal}
-use Rattle.topo_model.specs.Words.{spaced, pair_words}
-use Rattle.topo_model.proofs.Lines.{join-more}
+use Rattle.script_model.specs.Words.{spaced, pair_words}
+use Rattle.script_model.proofs.Lines.{join-more}
 use Rattle.edit_words.proofs.edits.push_feature.Goals as goal
 
 pub returns : goal.returns

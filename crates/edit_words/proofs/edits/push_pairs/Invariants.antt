@@ -1,6 +1,6 @@
 use Rattle.std.proofs.Common.{◌≡◌, ◌++◌, take}
 use Rattle.std.specs.Prelude.{flat_map}
-use Rattle.topo_model.specs.Words.{spaced, pair_words}
+use Rattle.script_model.specs.Words.{spaced, pair_words}
 use Rattle.edit_words.proofs.edits.push_pairs.Given as goal
 
 abbrev pub invariant-loop-pair : goal.invariant-loop-pair

@@ -1,6 +1,6 @@
 use Rattle.std.proofs.Common.{◌≡◌, ◌++◌, take}
 use Rattle.std.specs.Prelude.{flat_map}
-use Rattle.topo_model.specs.Words.{spaced, element_words}
+use Rattle.script_model.specs.Words.{spaced, element_words}
 use Rattle.edit_words.proofs.replies.push_elements.Given as goal
 
 abbrev pub invariant-loop-element : goal.invariant-loop-element

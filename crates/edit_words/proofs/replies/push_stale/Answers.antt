@@ -1,9 +1,9 @@
 use Rattle.std.proofs.Common.{◌≡◌, ℕ, List, ◌++◌, ◌∷◌, [], subst, ap, ◌∙◌, OnOk}
 use Rattle.std.specs.Prelude.{codes}
 use Rattle.std.specs.Fmt.{decimal}
-use Rattle.topo_model.specs.Words.{spaced, element_words}
-use Rattle.topo_model.specs.Texts.{at_front}
-use Rattle.topo_model.proofs.Lines.{line_of-three}
+use Rattle.script_model.specs.Words.{spaced, element_words}
+use Rattle.script_model.specs.Texts.{at_front}
+use Rattle.script_model.proofs.Lines.{line_of-three}
 use Rattle.edit_words.proofs.replies.push_stale.Goals as goal
 
 pub returns : goal.returns

@@ -1,5 +1,5 @@
 use Rattle.std.proofs.Common.{◌≡◌, ◌++◌, take}
-use Rattle.topo_model.specs.Words.{spaced, line_words}
+use Rattle.script_model.specs.Words.{spaced, line_words}
 use Rattle.edit_words.proofs.words.push_line.Given as goal
 
 abbrev pub invariant-loop-vertex : goal.invariant-loop-vertex

@@ -1,5 +1,5 @@
 use Rattle.std.proofs.Common.{◌∷◌}
-use Rattle.topo_model.specs.Spelling.{number_bytes, point_bytes}
+use Rattle.history_model.specs.Spelling.{number_bytes, point_bytes}
 use Rattle.entry_codec.proofs.Appending.{joined}
 use Rattle.entry_codec.proofs.edits.put_place.Goals as goal
 

@@ -1,5 +1,5 @@
-use Rattle.topo_model.specs.Spelling.{point_bytes}
-use Rattle.topo_model.specs.InRange.{is_grid_point}
+use Rattle.history_model.specs.Spelling.{point_bytes}
+use Rattle.drawing.specs.InRange.{is_grid_point}
 use Rattle.entry_codec.proofs.Appending.{flat_more, all_more}
 use Rattle.entry_codec.proofs.fields.put_points.Goals as goal
 

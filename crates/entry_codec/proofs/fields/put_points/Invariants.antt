@@ -1,7 +1,7 @@
 use Rattle.std.proofs.Common.{◌≡◌, ◌++◌, IsTrue, take, flat_map}
 use Rattle.std.specs.List.{list_all}
-use Rattle.topo_model.specs.InRange.{is_grid_point}
-use Rattle.topo_model.specs.Spelling.{point_bytes}
+use Rattle.drawing.specs.InRange.{is_grid_point}
+use Rattle.history_model.specs.Spelling.{point_bytes}
 use Rattle.entry_codec.proofs.fields.put_points.Given as goal
 
 abbrev pub invariant-loop-point : goal.invariant-loop-point

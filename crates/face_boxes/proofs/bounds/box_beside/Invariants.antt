@@ -1,7 +1,7 @@
 use Rattle.std.proofs.Common.{◌≡◌, ◌+◌, ◌≤◌, drop, map}
 use Rattle.std.specs.List.{sum_by}
-use Rattle.topo_model.specs.Places.{rows_of}
-use Rattle.topo_model.specs.Tables.{least_box, drawn_edge}
+use Rattle.drawing.specs.Places.{rows_of}
+use Rattle.drawing.specs.Tables.{least_box, drawn_edge}
 use Rattle.face_boxes.specs.Bounds.{grown, vertices_beside}
 use Rattle.edit_conditions.specs.Counted.{point_steps}
 use Rattle.face_boxes.proofs.bounds.box_beside.Given as goal

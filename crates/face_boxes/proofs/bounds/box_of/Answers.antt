@@ -1,9 +1,9 @@
 use Rattle.std.proofs.Common.{◌≡◌, ◌∙◌, ap, not, eqb, eqb-true, false, List, Option, None, map, filter}
 use Rattle.std.proofs.lemmas.Bool.{false_from_ne_true}
 use Rattle.topo_base.specs.declared.rows.Box4.{Box4}
-use Rattle.topo_model.specs.Drawing.{Edge}
+use Rattle.drawing.specs.Drawing.{Edge}
 use Rattle.face_boxes.specs.Bounds.{is_left_out}
-use Rattle.topo_model.specs.Tables.{drawn, drawn_edge, has_side, least_box}
+use Rattle.drawing.specs.Tables.{drawn, drawn_edge, has_side, least_box}
 use Rattle.face_boxes.proofs.Boxes.{none_left_out, points_of}
 use Rattle.face_boxes.proofs.bounds.box_of.Goals as goal
 

@@ -2,11 +2,11 @@ use Rattle.std.proofs.Common.{◌≡◌, Some, Ok, Err, IsOk, refl, sym, ◌∙�
 use Rattle.std.specs.List.{Contains}
 use Rattle.topo_base.specs.declared.rows.EdgeRow.{EdgeRow}
 use Rattle.topo_base.specs.declared.rule.Rule.TheVariants.{NoEdge, EdgeInFeature, FaceInFeature}
-use Rattle.topo_model.specs.Drawing.{edge_at}
-use Rattle.topo_model.specs.Edits.{remove_edge}
-use Rattle.topo_model.specs.Rows.{row_at}
-use Rattle.topo_model.specs.Tables.{Tables, drawn, drawn_edge}
-use Rattle.topo_model.specs.Writes.{edge_row_id}
+use Rattle.drawing.specs.Drawing.{edge_at}
+use Rattle.drawing.specs.Edits.{remove_edge}
+use Rattle.drawing.specs.Rows.{row_at}
+use Rattle.drawing.specs.Tables.{Tables, drawn, drawn_edge}
+use Rattle.drawing.specs.Writes.{edge_row_id}
 use Rattle.merged_faces.specs.Merging.{with_merged}
 use Rattle.face_merge.proofs.Answering.{accepted_where, found_none, found_row, refused_border, refused_listed, refused_unknown}
 use Rattle.face_merge.proofs.DroppedRows.{row_there}

@@ -1,7 +1,7 @@
 use Rattle.std.proofs.Common.{sym, ap, ◌∙◌, List, [], ◌∷◌, ◌++◌}
 use Rattle.topo_base.specs.declared.element.Element.{Element}
-use Rattle.topo_model.specs.Outcome.{the_face}
-use Rattle.topo_model.specs.Tables.{drawn, drawn_edge}
+use Rattle.drawing.specs.Outcome.{the_face}
+use Rattle.drawing.specs.Tables.{drawn, drawn_edge}
 use Rattle.face_merge.proofs.EdgeGone.{has_removed, was_removed}
 use Rattle.face_merge.proofs.planning.without_edge.Goals as goal
 

@@ -1,5 +1,5 @@
 use Rattle.std.proofs.Common.{ap, ◌∙◌}
-use Rattle.topo_model.specs.Tables.{drawn, drawn_edge}
+use Rattle.drawing.specs.Tables.{drawn, drawn_edge}
 use Rattle.read_set.specs.Drafted.{Drafted}
 use Rattle.face_merge.proofs.DroppedRows.{going, can_drop, rows_dropped}
 use Rattle.face_merge.proofs.removing.drop_from_draft.Goals as goal

@@ -1,5 +1,5 @@
 use Rattle.std.proofs.Common.{◌∙◌, ap}
-use Rattle.topo_model.specs.Ring.{closed_segments}
+use Rattle.plane.specs.ClosedWalk.{closed_segments}
 use Rattle.face_parts.proofs.DartPaths.{ring_closes}
 use Rattle.face_parts.proofs.path.ring_path.Goals as goal
 

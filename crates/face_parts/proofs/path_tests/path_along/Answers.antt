@@ -5,8 +5,8 @@ use Rattle.std.proofs.lemmas.List.{length-reverse}
 use Rattle.topo_base.specs.Point.{Point}
 use Rattle.topo_base.specs.declared.ids.Dart.{Dart}
 use Rattle.topo_base.specs.declared.rows.EdgeRow.{EdgeRow}
-use Rattle.topo_model.specs.Rows.{row_at, has_row}
-use Rattle.topo_model.specs.Writes.{edge_row_id}
+use Rattle.drawing.specs.Rows.{row_at, has_row}
+use Rattle.drawing.specs.Writes.{edge_row_id}
 use Rattle.face_parts.specs.Paths.{without_last, walked_row, path_of, are_edges}
 use Rattle.face_parts.proofs.DartPaths.{found_row}
 use Rattle.face_parts.proofs.path_tests.path_along.Goals as goal

@@ -1,5 +1,5 @@
 use Rattle.std.proofs.Common.{◌≡◌, ◌++◌, drop}
-use Rattle.topo_model.specs.Places.{rows_of}
+use Rattle.drawing.specs.Places.{rows_of}
 use Rattle.face_parts.specs.Divided.{part_of_point}
 use Rattle.face_parts.specs.Sides.{node_writes}
 use Rattle.face_parts.proofs.sides.push_nodes.Given as goal

@@ -1,6 +1,6 @@
 use Rattle.std.proofs.Common.{ap, refl, ◌∙◌}
 use Rattle.topo_base.specs.declared.rows.Counters.{Counters}
-use Rattle.topo_model.specs.Tables.{Tables, drawn}
+use Rattle.drawing.specs.Tables.{Tables, drawn}
 use Rattle.read_set.specs.Drafted.{Drafted}
 use Rattle.edge_links.specs.LinksLaw.{IsComing}
 use Rattle.face_split.proofs.AddedRows.{can_add, rows_added}

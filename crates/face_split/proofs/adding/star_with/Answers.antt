@@ -1,6 +1,6 @@
 use Rattle.std.proofs.Common.{◌≡◌, ℕ, subst}
-use Rattle.topo_model.specs.IsoEdits.{with_edge}
-use Rattle.topo_model.specs.Tables.{drawn}
+use Rattle.drawing.specs.IsoEdits.{with_edge}
+use Rattle.drawing.specs.Tables.{drawn}
 use Rattle.edge_links.specs.LinksLaw.{rays_at}
 use Rattle.face_split.proofs.Stars.{own_there}
 use Rattle.face_split.proofs.adding.star_with.Goals as goal

@@ -1,7 +1,7 @@
 use Rattle.std.proofs.Common.{ap, ◌∙◌}
-use Rattle.topo_model.specs.AddEdge.{coming}
-use Rattle.topo_model.specs.IsoEdits.{with_edge}
-use Rattle.topo_model.specs.Tables.{Tables}
+use Rattle.drawing.specs.AddEdge.{coming}
+use Rattle.drawing.specs.IsoEdits.{with_edge}
+use Rattle.drawing.specs.Tables.{Tables}
 use Rattle.read_set.specs.Drafted.{Drafted}
 use Rattle.face_split.specs.Divided.{both_boxes}
 use Rattle.face_split.proofs.OnePart.{division_by, one_begins, one_can_close, one_closes, one_divided, one_divides, border_is_linked}

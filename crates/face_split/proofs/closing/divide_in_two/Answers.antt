@@ -1,9 +1,9 @@
 use Rattle.std.proofs.Common.{◌∷◌, ◌++◌, [], ap, ◌∙◌}
 use Rattle.topo_base.specs.declared.write.RowId.TheVariants.{Old}
 use Rattle.topo_base.specs.declared.write.RowWrite.TheVariants.{DropFace}
-use Rattle.topo_model.specs.AddEdge.{coming}
-use Rattle.topo_model.specs.IsoEdits.{with_edge}
-use Rattle.topo_model.specs.Tables.{Tables}
+use Rattle.drawing.specs.AddEdge.{coming}
+use Rattle.drawing.specs.IsoEdits.{with_edge}
+use Rattle.drawing.specs.Tables.{Tables}
 use Rattle.read_set.specs.Drafted.{Drafted}
 use Rattle.face_split.specs.Closing.{two_parts}
 use Rattle.face_split.specs.Divided.{both_boxes}

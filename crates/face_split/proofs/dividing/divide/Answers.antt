@@ -1,5 +1,5 @@
 use Rattle.std.proofs.Common.{sym, subst}
-use Rattle.topo_model.specs.Tables.{Tables}
+use Rattle.drawing.specs.Tables.{Tables}
 use Rattle.face_split.specs.Divided.{KnowsFeatures}
 use Rattle.face_split.proofs.Featured.{features_kept}
 use Rattle.face_split.proofs.dividing.divide.Goals as goal

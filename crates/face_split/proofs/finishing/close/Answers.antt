@@ -1,7 +1,7 @@
 use Rattle.std.proofs.Common.{sym, ◌∙◌}
-use Rattle.topo_model.specs.AddEdge.{coming}
-use Rattle.topo_model.specs.HalfEdge.{forward_of}
-use Rattle.topo_model.specs.IsoEdits.{with_edge}
+use Rattle.drawing.specs.AddEdge.{coming}
+use Rattle.drawing.specs.HalfEdge.{forward_of}
+use Rattle.drawing.specs.IsoEdits.{with_edge}
 use Rattle.face_parts.proofs.DartPaths.{ring_is_known, ring_is_long}
 use Rattle.face_split.proofs.Finished.{cut_by, has_cut, in_parts_one, in_parts_two, one_ids, ring_at_hand, shell_is, small_face, some_face, two_ids}
 use Rattle.face_split.proofs.finishing.close.Goals as goal

@@ -1,7 +1,7 @@
 use Rattle.std.proofs.Common.{ap, ◌∙◌}
-use Rattle.topo_model.specs.AddEdge.{coming}
-use Rattle.topo_model.specs.Outcome.{Accepted}
-use Rattle.topo_model.specs.Tables.{tables_of}
+use Rattle.drawing.specs.AddEdge.{coming}
+use Rattle.drawing.specs.Outcome.{Accepted}
+use Rattle.drawing.specs.Tables.{tables_of}
 use Rattle.face_split.proofs.RingTaken.{has_edge_beside, has_edge_in, has_ring, is_linked, on_left, parted, stands_beside, takes_both, whole_ids, whole_rows}
 use Rattle.face_split.proofs.finishing.finish.Goals as goal
 

@@ -1,6 +1,6 @@
 use Rattle.std.proofs.Common.{List, ◌++◌, ap, ◌∙◌}
 use Rattle.topo_base.specs.declared.write.RowWrite.{RowWrite}
-use Rattle.topo_model.specs.Tables.{drawn, face_box}
+use Rattle.drawing.specs.Tables.{drawn, face_box}
 use Rattle.face_boxes.specs.Bounds.{box_write}
 use Rattle.read_set.specs.Drafted.{Drafted}
 use Rattle.face_split.proofs.GrownBox.{grown_is, may_grow}

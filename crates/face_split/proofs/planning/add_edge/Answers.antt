@@ -1,9 +1,9 @@
 use Rattle.std.proofs.Common.{◌≡◌, Some, Ok, sym, ◌∙◌, subst}
 use Rattle.topo_base.specs.declared.rows.NodeRow.{NodeRow}
-use Rattle.topo_model.specs.Edits.{add_edge}
-use Rattle.topo_model.specs.Drawing.{node_at}
-use Rattle.topo_model.specs.PlainLaw.{IsPlainInOrder}
-use Rattle.topo_model.specs.Tables.{Tables, drawn}
+use Rattle.drawing.specs.Edits.{add_edge}
+use Rattle.drawing.specs.Drawing.{node_at}
+use Rattle.drawing.specs.PlainInOrder.{IsPlainInOrder}
+use Rattle.drawing.specs.Tables.{Tables, drawn}
 use Rattle.face_split.specs.Placing.{IsPlaced}
 use Rattle.face_split.specs.Closing.{with_edge_in}
 use Rattle.face_split.proofs.Placed.{accepted_where, found_row, placed_where}

@@ -1,6 +1,6 @@
 use Rattle.std.proofs.Common.{sym, ap, ◌∙◌}
 use Rattle.topo_base.specs.declared.rows.Counters.{Counters}
-use Rattle.topo_model.specs.Tables.{Tables, drawn}
+use Rattle.drawing.specs.Tables.{Tables, drawn}
 use Rattle.face_split.proofs.Placed.{has_added, placed_face, was_added}
 use Rattle.face_split.proofs.planning.with_edge.Goals as goal
 

@@ -1,4 +1,4 @@
-use Rattle.topo_model.specs.Places.{rows_of}
+use Rattle.drawing.specs.Places.{rows_of}
 use Rattle.edge_links.proofs.RayLemmas.{proper_slots}
 use Rattle.face_split.proofs.LastWedges.{face_where}
 use Rattle.face_split.proofs.wedges.face_at_node.Goals as goal

@@ -1,6 +1,6 @@
 use Rattle.std.proofs.Common.{◌+◌, ◌∙◌, ap, drop}
 use Rattle.std.specs.Prelude.{flat_map}
-use Rattle.topo_model.specs.Places.{at_slot}
+use Rattle.drawing.specs.Places.{at_slot}
 use Rattle.edge_links.specs.Rays.{has_proper_line, in_each_slot}
 use Rattle.edge_links.proofs.RayLemmas.{all_get}
 use Rattle.face_split.specs.Wedges.{last_from, wedges_in}

@@ -1,6 +1,6 @@
 use Rattle.std.proofs.Common.{◌≡◌, drop, None}
 use Rattle.std.specs.Prelude.{flat_map}
-use Rattle.topo_model.specs.Places.{at_slot}
+use Rattle.drawing.specs.Places.{at_slot}
 use Rattle.face_split.specs.Wedges.{last_from, wedges_in}
 use Rattle.face_split.proofs.wedges.last_about.Given as goal
 

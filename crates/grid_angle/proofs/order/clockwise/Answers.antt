@@ -2,8 +2,8 @@ use Rattle.std.proofs.Common.{◌≡◌, ◌↔◌, false, sym, ◌∙◌, refl,
 use Rattle.std.proofs.lemmas.Bool.{both_ways}
 use Rattle.std.specs.declared.cmp.Ordering.{Ordering}
 use Rattle.std.specs.declared.cmp.Ordering.TheVariants.{Less, Equal, Greater}
-use Rattle.topo_model.specs.Direction.{Direction, is_nearer, IsNotZero, OneDirection}
-use Rattle.topo_model.proofs.Directions.{nearer_self, nearer_onward, nearer_one, nearer_total, one_turned}
+use Rattle.plane.specs.Direction.{Direction, is_nearer, IsNotZero, OneDirection}
+use Rattle.plane.proofs.Directions.{nearer_self, nearer_onward, nearer_one, nearer_total, one_turned}
 use Rattle.grid_angle.proofs.order.clockwise.Goals as goal
 
 record IsExact (o : Ordering) (r a b : Direction) : Type 0 where

@@ -1,7 +1,7 @@
 use Rattle.std.proofs.Common.{sym, subst, inr, refl, IsTrue}
-use Rattle.topo_model.specs.Direction.{is_nearer, IsNotZero}
-use Rattle.topo_model.specs.Wedge.{direction_at}
-use Rattle.topo_model.proofs.Wedges.{IsDivided, at_index, divided_last, divided_none, divided_at, divided_end, one_before}
+use Rattle.plane.specs.Direction.{is_nearer, IsNotZero}
+use Rattle.plane.specs.Wedge.{direction_at}
+use Rattle.plane.proofs.Wedges.{IsDivided, at_index, divided_last, divided_none, divided_at, divided_end, one_before}
 use Rattle.grid_angle.proofs.star.wedge.Goals as goal
 
 divided : (c : goal.In-Greater) → IsDivided c.args.star.now c.args.dir c.loop-i.last

@@ -1,5 +1,5 @@
 use Rattle.std.proofs.Common.{◌≡◌, ℕ, ◌+◌, ◌<◌, ◌⊎◌}
-use Rattle.topo_model.proofs.Wedges.{IsBefore}
+use Rattle.plane.proofs.Wedges.{IsBefore}
 use Rattle.grid_angle.proofs.star.wedge.Given as goal
 
 abbrev pub invariant-loop-i : goal.invariant-loop-i

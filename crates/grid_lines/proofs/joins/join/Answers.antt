@@ -1,5 +1,5 @@
 use Rattle.std.proofs.Common.{◌≡◌, arith, rules}
-use Rattle.topo_model.specs.Line.{joined}
+use Rattle.plane.specs.Line.{joined}
 use Rattle.grid_lines.proofs.Joining.{join_points_of}
 use Rattle.grid_lines.proofs.joins.join.Goals as goal
 

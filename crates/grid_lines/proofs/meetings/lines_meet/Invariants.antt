@@ -1,6 +1,6 @@
 use Rattle.std.proofs.Common.{◌+◌, ◌*◌, ◌≤◌, drop, length}
 use Rattle.topo_base.specs.declared.meeting.Meeting.{Meeting}
-use Rattle.topo_model.specs.Line.{segments_of}
+use Rattle.plane.specs.Line.{segments_of}
 use Rattle.grid_lines.specs.Parts.{PartsMeet, combined}
 use Rattle.grid_lines.proofs.meetings.lines_meet.Given as goal
 

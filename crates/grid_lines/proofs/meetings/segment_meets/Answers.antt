@@ -1,6 +1,6 @@
 use Rattle.std.proofs.Common.{◌+◌, [], ◌∷◌, List, drop, subst, arith}
 use Rattle.topo_base.specs.Point.{Point}
-use Rattle.topo_model.specs.Line.{segments_of}
+use Rattle.plane.specs.Line.{segments_of}
 use Rattle.grid_lines.specs.Parts.{PartsMeet}
 use Rattle.grid_lines.proofs.Vertices.{segments_end}
 use Rattle.grid_lines.proofs.LinesMeeting.{second_step, second_end}

@@ -1,8 +1,8 @@
 use Rattle.std.proofs.Common.{◌≡◌, ◌∙◌, sym, arith, List, Bool}
 use Rattle.std.specs.List.{list_all}
 use Rattle.topo_base.specs.Point.{Point}
-use Rattle.topo_model.specs.Line.{segments_of, first_vertex, last_vertex, meets_at_own_ends}
-use Rattle.topo_model.specs.Segment.{Segment, meets_only_at}
+use Rattle.plane.specs.Line.{segments_of, first_vertex, last_vertex, meets_at_own_ends}
+use Rattle.plane.specs.Segment.{Segment, meets_only_at}
 use Rattle.grid_lines.proofs.Tested.{all_on, all_failed, all_end}
 use Rattle.grid_lines.proofs.own_ends.meets_at_own_ends.Goals as goal
 

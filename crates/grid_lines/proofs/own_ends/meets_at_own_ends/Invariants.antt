@@ -1,7 +1,7 @@
 use Rattle.std.proofs.Common.{◌≡◌, ◌+◌, ◌*◌, ◌≤◌, drop, length}
 use Rattle.std.specs.List.{list_all}
-use Rattle.topo_model.specs.Line.{segments_of}
-use Rattle.topo_model.specs.Segment.{meets_only_at}
+use Rattle.plane.specs.Line.{segments_of}
+use Rattle.plane.specs.Segment.{meets_only_at}
 use Rattle.grid_lines.proofs.own_ends.meets_at_own_ends.Given as goal
 
 -- the segments before this vertex meet the other line at the two ends alone

@@ -1,8 +1,8 @@
 use Rattle.std.proofs.Common.{◌≡◌, ◌∙◌, sym, ap, arith, List}
 use Rattle.std.specs.List.{list_all}
 use Rattle.topo_base.specs.Point.{Point}
-use Rattle.topo_model.specs.Line.{segments_of}
-use Rattle.topo_model.specs.Segment.{meets_only_at}
+use Rattle.plane.specs.Line.{segments_of}
+use Rattle.plane.specs.Segment.{meets_only_at}
 use Rattle.grid_lines.proofs.Tested.{all_on, all_failed, all_end}
 use Rattle.grid_lines.proofs.own_ends.segment_meets_only_at.Goals as goal
 

@@ -1,7 +1,7 @@
 use Rattle.std.proofs.Common.{◌≡◌, ◌+◌, ◌≤◌, drop}
 use Rattle.std.specs.List.{list_all}
-use Rattle.topo_model.specs.Line.{segments_of}
-use Rattle.topo_model.specs.Segment.{meets_only_at}
+use Rattle.plane.specs.Line.{segments_of}
+use Rattle.plane.specs.Segment.{meets_only_at}
 use Rattle.grid_lines.proofs.own_ends.segment_meets_only_at.Given as goal
 
 -- s meets the segments before this vertex at p or q alone

@@ -1,6 +1,6 @@
 use Rattle.std.proofs.Common.{◌≡◌, ◌∙◌, sym, ap, arith}
-use Rattle.topo_model.specs.Line.{on_line}
-use Rattle.topo_model.specs.Segment.{on_segment}
+use Rattle.plane.specs.Line.{on_line}
+use Rattle.plane.specs.Segment.{on_segment}
 use Rattle.grid_lines.proofs.Tested.{any_on, any_met, any_end}
 use Rattle.grid_lines.proofs.points.on_line.Goals as goal
 

@@ -1,5 +1,5 @@
 use Rattle.std.proofs.Common.{◌≡◌, ◌+◌, ◌≤◌, drop}
-use Rattle.topo_model.specs.Line.{on_line}
+use Rattle.plane.specs.Line.{on_line}
 use Rattle.grid_lines.proofs.points.on_line.Given as goal
 
 -- p is not on the segments before this vertex

@@ -1,5 +1,5 @@
 use Rattle.std.proofs.Common.{◌≡◌, ◌∙◌, sym, ap, arith}
-use Rattle.topo_model.specs.LinePoints.{has_proper_segments}
+use Rattle.plane.specs.LinePoints.{has_proper_segments}
 use Rattle.grid_lines.proofs.Vertices.{proper_end, proper_on, not_proper_at}
 use Rattle.grid_lines.proofs.proper.is_proper.Goals as goal
 

@@ -1,5 +1,5 @@
 use Rattle.std.proofs.Common.{◌≡◌, drop}
-use Rattle.topo_model.specs.LinePoints.{has_proper_segments}
+use Rattle.plane.specs.LinePoints.{has_proper_segments}
 use Rattle.grid_lines.proofs.proper.is_proper.Given as goal
 
 -- the segments before this vertex are proper

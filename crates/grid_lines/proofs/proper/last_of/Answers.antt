@@ -1,5 +1,5 @@
 use Rattle.std.proofs.Common.{◌≡◌, subst, arith}
-use Rattle.topo_model.specs.Line.{last_vertex}
+use Rattle.plane.specs.Line.{last_vertex}
 use Rattle.grid_lines.proofs.Vertices.{vertex_last}
 use Rattle.grid_lines.proofs.proper.last_of.Goals as goal
 

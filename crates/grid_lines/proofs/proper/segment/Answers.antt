@@ -1,9 +1,9 @@
 use Rattle.std.proofs.Common.{◌≡◌, ◌≢◌, refl, Option, Some, None, sym, ap, ◌∙◌, ◌∷◌, drop, ◌+◌}
 use Rattle.std.specs.Prelude.{IsSome, MatchOption}
 use Rattle.topo_base.specs.Point.{Point}
-use Rattle.topo_model.specs.Segment.{Segment}
-use Rattle.topo_model.specs.Line.{segments_of}
-use Rattle.topo_model.specs.Relation.{IsProper}
+use Rattle.plane.specs.Segment.{Segment}
+use Rattle.plane.specs.Line.{segments_of}
+use Rattle.plane.specs.Relation.{IsProper}
 use Rattle.grid_lines.proofs.Vertices.{segment_is, differ_at}
 use Rattle.grid_lines.proofs.proper.segment.Goals as goal
 

@@ -1,6 +1,6 @@
 use Rattle.std.proofs.Common.{◌≡◌, sym, ◌∙◌, arith, true}
 use Rattle.topo_base.specs.Point.{Point}
-use Rattle.topo_model.specs.Line.{are_simple, first_vertex, segments_of}
+use Rattle.plane.specs.Line.{are_simple, first_vertex, segments_of}
 use Rattle.std.proofs.Common.{List}
 use Rattle.grid_lines.proofs.Vertices.{simple_end}
 use Rattle.grid_lines.proofs.simple.are_simple.Goals as goal

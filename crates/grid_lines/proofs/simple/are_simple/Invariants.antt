@@ -1,5 +1,5 @@
 use Rattle.std.proofs.Common.{◌≡◌, ◌+◌, ◌*◌, ◌≤◌, drop, length}
-use Rattle.topo_model.specs.Line.{are_simple, segments_of}
+use Rattle.plane.specs.Line.{are_simple, segments_of}
 use Rattle.grid_lines.proofs.simple.are_simple.Given as goal
 
 -- the segments before this vertex meet the others as those of a simple line

@@ -1,5 +1,5 @@
 use Rattle.std.proofs.Common.{◌≡◌, ◌+◌, ◌≤◌, drop}
-use Rattle.topo_model.specs.Line.{is_apart_from, segments_of}
+use Rattle.plane.specs.Line.{is_apart_from, segments_of}
 use Rattle.grid_lines.proofs.simple.is_apart_from.Given as goal
 
 -- the segments before this vertex have no common point with s

@@ -1,11 +1,11 @@
 use Rattle.std.proofs.Common.{◌≡◌, sym, ◌∙◌, ap, ◌&&◌, Bool, true, false}
 use Rattle.std.specs.Bool.{Decides}
 use Rattle.std.proofs.lemmas.Bool.Decides.{Decides-at}
-use Rattle.topo_model.specs.Line.{is_simple, are_simple, first_vertex, segments_of}
-use Rattle.topo_model.specs.LinePoints.{IsPlainLine, has_proper_segments}
+use Rattle.plane.specs.Line.{is_simple, are_simple, first_vertex, segments_of}
+use Rattle.plane.specs.LinePoints.{IsPlainLine, has_proper_segments}
 use Rattle.topo_base.specs.Point.{Point}
 use Rattle.std.proofs.Common.{List}
-use Rattle.topo_model.proofs.SimpleTests.{Decides-simple}
+use Rattle.plane.proofs.SimpleTests.{Decides-simple}
 use Rattle.grid_lines.proofs.simple.is_simple.Goals as goal
 
 tells : (line : List Point) (r : Bool) → r ≡ is_simple line → Decides r (IsPlainLine line)

@@ -1,5 +1,5 @@
 use Rattle.std.proofs.Common.{◌≡◌, ◌+◌, sym, ◌∙◌, arith, true}
-use Rattle.topo_model.specs.Line.{joins}
+use Rattle.plane.specs.Line.{joins}
 use Rattle.grid_lines.proofs.Vertices.{ends_at, proper_from, simple_on}
 use Rattle.grid_lines.proofs.simple.joins_rest.Goals as goal
 

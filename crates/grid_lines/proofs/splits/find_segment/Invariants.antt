@@ -1,5 +1,5 @@
 use Rattle.std.proofs.Common.{◌≡◌, ◌++◌, drop, take}
-use Rattle.topo_model.specs.Line.{line_from, line_up_to, on_line}
+use Rattle.plane.specs.Line.{line_from, line_up_to, on_line}
 use Rattle.grid_lines.proofs.splits.find_segment.Given as goal
 
 -- p is on no segment before this vertex

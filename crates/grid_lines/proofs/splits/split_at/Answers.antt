@@ -2,9 +2,9 @@ use Rattle.std.proofs.Common.{◌≡◌, ◌+◌, ◌↔◌, ◌⊎◌, sym, ◌
 use Rattle.std.proofs.lemmas.Bool.{and_parts}
 use Rattle.topo_base.specs.Point.{Point}
 use Rattle.topo_base.specs.RationalPoint.{RationalPoint}
-use Rattle.topo_model.specs.Line.{on_line, is_line_end, line_up_to, line_from, is_simple, are_simple, first_vertex, segments_of}
-use Rattle.topo_model.specs.LinePoints.{has_proper_segments}
-use Rattle.topo_model.specs.RationalTests.{IsOnLine}
+use Rattle.plane.specs.Line.{on_line, is_line_end, line_up_to, line_from, is_simple, are_simple, first_vertex, segments_of}
+use Rattle.plane.specs.LinePoints.{has_proper_segments}
+use Rattle.plane.specs.RationalTests.{IsOnLine}
 use Rattle.grid_lines.proofs.Splitting.{two_left, not_first, split_points}
 use Rattle.grid_lines.proofs.splits.split_at.Goals as goal
 

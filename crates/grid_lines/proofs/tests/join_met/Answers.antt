@@ -1,6 +1,6 @@
 use Rattle.std.proofs.Common.{◌≡◌, sym, ◌∙◌, true}
 use Rattle.topo_base.specs.Point.{same_point}
-use Rattle.topo_model.proofs.PointTests.{Decides-same_point}
+use Rattle.plane.proofs.PointTests.{Decides-same_point}
 use Rattle.grid_lines.proofs.Splitting.{same_points}
 use Rattle.grid_lines.proofs.tests.join_met.Goals as goal
 

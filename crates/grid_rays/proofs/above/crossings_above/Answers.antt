@@ -1,10 +1,10 @@
 use Rattle.std.proofs.Common.{◌≡◌, ◌↔◌, ℕ, ◌+◌, ◌-◌, ◌<◌, ◌≤◌, ◌%◌, refl, sym, ◌∙◌, ap, subst, arith, length, drop, IsTrue, List, []}
 use Rattle.std.specs.Prelude.{count_by}
 use Rattle.topo_base.specs.Point.{Point}
-use Rattle.topo_model.proofs.Walks.{no_segments, odd_is_count, one_counted, one_segment, over_index, plus_one, plus_none, point_index}
-use Rattle.topo_model.specs.Line.{segments_of}
-use Rattle.topo_model.specs.Segment.{Segment}
-use Rattle.topo_model.specs.Faces.{is_over, is_odd_over}
+use Rattle.plane.proofs.Walks.{no_segments, odd_is_count, one_counted, one_segment, over_index, plus_one, plus_none, point_index}
+use Rattle.plane.specs.Line.{segments_of}
+use Rattle.plane.specs.Segment.{Segment}
+use Rattle.plane.specs.Parity.{is_over, is_odd_over}
 use Rattle.grid_rays.proofs.above.crossings_above.Goals as goal
 use Rattle.grid_rays.proofs.above.crossings_above.Goals.{then-is_over, else-is_over}
 

@@ -1,7 +1,7 @@
 use Rattle.std.proofs.Common.{◌≡◌, ◌+◌, ◌≤◌, length, drop}
 use Rattle.std.specs.Prelude.{count_by}
-use Rattle.topo_model.specs.Line.{segments_of}
-use Rattle.topo_model.specs.Faces.{is_over}
+use Rattle.plane.specs.Line.{segments_of}
+use Rattle.plane.specs.Parity.{is_over}
 use Rattle.grid_rays.proofs.above.crossings_above.Given as goal
 
 abbrev pub invariant-loop-i : goal.invariant-loop-i

@@ -1,8 +1,8 @@
 use Rattle.std.proofs.Common.{◌≡◌, sym, subst, arith, ℤ, pos, ◌≤ℤ◌, false}
 use Rattle.topo_base.specs.Point.{Point}
-use Rattle.topo_model.proofs.Ring.{multiplied, signed}
-use Rattle.topo_model.proofs.Tests.{lt_no}
-use Rattle.topo_model.specs.Orientation.{area, is_right}
+use Rattle.plane.proofs.Ring.{multiplied, signed}
+use Rattle.plane.proofs.Tests.{lt_no}
+use Rattle.plane.specs.Orientation.{area, is_right}
 use Rattle.grid_rays.proofs.above.is_right_of.Goals as goal
 
 no_side : (p q : Point) → is_right p p q ≡ false

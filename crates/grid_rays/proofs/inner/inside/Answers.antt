@@ -1,9 +1,9 @@
 use Rattle.std.proofs.Common.{◌≡◌, ℕ, ◌+◌, ◌-◌, ◌<◌, ◌≤◌, refl, sym, ◌∙◌, ap, arith, length, drop, Bool, true, false, List}
 use Rattle.topo_base.specs.Point.{Point}
-use Rattle.topo_model.proofs.Walks.{no_segments, one_odd, over_index, turned_once, not_turned, closed_odd, point_index}
-use Rattle.topo_model.specs.Line.{segments_of}
-use Rattle.topo_model.specs.Faces.{xor, is_odd_over}
-use Rattle.topo_model.specs.Ring.{closed_segments}
+use Rattle.plane.proofs.Walks.{no_segments, one_odd, over_index, turned_once, not_turned, closed_odd, point_index}
+use Rattle.plane.specs.Line.{segments_of}
+use Rattle.plane.specs.Parity.{xor, is_odd_over}
+use Rattle.plane.specs.ClosedWalk.{closed_segments}
 use Rattle.grid_rays.proofs.inner.inside.Goals as goal
 use Rattle.grid_rays.proofs.inner.inside.Goals.{then-is_over, else-is_over}
 

@@ -1,7 +1,7 @@
 use Rattle.std.proofs.Common.{◌≡◌, drop}
-use Rattle.topo_model.specs.Line.{segments_of}
-use Rattle.topo_model.specs.Faces.{xor, is_odd_over}
-use Rattle.topo_model.specs.Ring.{closed_segments}
+use Rattle.plane.specs.Line.{segments_of}
+use Rattle.plane.specs.Parity.{xor, is_odd_over}
+use Rattle.plane.specs.ClosedWalk.{closed_segments}
 use Rattle.grid_rays.proofs.inner.inside.Given as goal
 
 abbrev pub invariant-loop-i : goal.invariant-loop-i

@@ -4,8 +4,8 @@ use Rattle.std.specs.Prelude.{◌||◌}
 use Rattle.std.specs.Ordering.{is_lt, is_eq}
 use Rattle.std.specs.declared.cmp.Ordering.{Ordering}
 use Rattle.std.specs.declared.cmp.Ordering.TheVariants.{Less, Equal, Greater}
-use Rattle.topo_model.specs.Direction.{Direction, same_direction, is_nearer, straight_up, OneDirection, IsNotZero}
-use Rattle.topo_model.proofs.Directions.{same_out}
+use Rattle.plane.specs.Direction.{Direction, same_direction, is_nearer, straight_up, OneDirection, IsNotZero}
+use Rattle.plane.proofs.Directions.{same_out}
 use Rattle.grid_rays.proofs.shells.has_up.Goals as goal
 
 equal_not_less : Equal ≡ Less → ⊥

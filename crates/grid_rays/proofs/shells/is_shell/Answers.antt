@@ -1,8 +1,8 @@
 use Rattle.std.proofs.Common.{◌≡◌, ℕ, ◌+◌, ◌-◌, ◌<◌, ◌≤◌, sym, ◌∙◌, ap, subst, arith, ◌⊎◌, inl, inr, length, drop, Bool, true, false, List}
 use Rattle.std.specs.Prelude.{◌||◌, not, slice_index_or}
 use Rattle.topo_base.specs.Point.{Point}
-use Rattle.topo_model.proofs.Walks.{any_turn, turn_at, turn_is, rest_turns, no_turns, hole_is, hole_by, shell_by, point_index}
-use Rattle.topo_model.specs.Ring.{closed_segments, turns_below, is_hole_walk, IsTopVertex}
+use Rattle.plane.proofs.Walks.{any_turn, turn_at, turn_is, rest_turns, no_turns, hole_is, hole_by, shell_by, point_index}
+use Rattle.plane.specs.ClosedWalk.{closed_segments, turns_below, is_hole_walk, IsTopVertex}
 use Rattle.grid_rays.proofs.shells.is_shell.Goals as goal
 
 -- the walk is a hole where it turns below on the way, at the last vertex or at the first

@@ -1,6 +1,6 @@
 use Rattle.std.proofs.Common.{◌≡◌, drop}
-use Rattle.topo_model.proofs.Walks.{any_turn}
-use Rattle.topo_model.specs.Ring.{turns_below}
+use Rattle.plane.proofs.Walks.{any_turn}
+use Rattle.plane.specs.ClosedWalk.{turns_below}
 use Rattle.grid_rays.proofs.shells.is_shell.Given as goal
 
 abbrev pub invariant-loop-i : goal.invariant-loop-i

@@ -2,9 +2,9 @@ use Rattle.std.proofs.Common.{◌≡◌, sym, ap, subst, arith, ℤ, pos, ◌≤
 use Rattle.std.specs.Prelude.{is_some}
 use Rattle.std.proofs.lemmas.Bool.{or_left, eq-eqb}
 use Rattle.topo_base.specs.Point.{Point}
-use Rattle.topo_model.proofs.Ring.{multiplied, signed}
-use Rattle.topo_model.proofs.Directions.{in_front}
-use Rattle.topo_model.specs.Direction.{Direction, cross, dot, quarter, same_direction, is_nearer, in_wedge, direction_to, straight_up}
+use Rattle.plane.proofs.Ring.{multiplied, signed}
+use Rattle.plane.proofs.Directions.{in_front}
+use Rattle.plane.specs.Direction.{Direction, cross, dot, quarter, same_direction, is_nearer, in_wedge, direction_to, straight_up}
 use Rattle.grid_rays.proofs.shells.opens_upward.Goals as goal
 
 zero_level : (a : ℤ) → a ≡ pos 0 → pos 0 ≤ℤ a

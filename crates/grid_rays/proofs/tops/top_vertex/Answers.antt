@@ -1,7 +1,7 @@
 use Rattle.std.proofs.Common.{◌+◌, sym, ◌∙◌, ap, subst, arith}
-use Rattle.topo_model.proofs.Walks.{point_index}
-use Rattle.topo_model.proofs.Tops.{IsTopSoFar, top_at_first, top_moves, top_stays}
-use Rattle.topo_model.specs.Ring.{point_at, is_higher}
+use Rattle.plane.proofs.Walks.{point_index}
+use Rattle.plane.proofs.Tops.{IsTopSoFar, top_at_first, top_moves, top_stays}
+use Rattle.plane.specs.ClosedWalk.{point_at, is_higher}
 use Rattle.grid_rays.proofs.tops.top_vertex.Goals as goal
 use Rattle.grid_rays.proofs.tops.top_vertex.Goals.{then-is_higher, else-is_higher}
 

@@ -1,4 +1,4 @@
-use Rattle.topo_model.proofs.Tops.{IsTopSoFar}
+use Rattle.plane.proofs.Tops.{IsTopSoFar}
 use Rattle.grid_rays.proofs.tops.top_vertex.Given as goal
 
 abbrev pub invariant-loop-i : goal.invariant-loop-i

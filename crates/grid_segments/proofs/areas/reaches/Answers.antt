@@ -1,7 +1,7 @@
 use Rattle.std.proofs.Common.{FitsSigned, rules, ◌≡◌, ◌∙◌, ap}
 use Rattle.std.proofs.lemmas.Int.{to_z-of_z}
 use mir.Syntax.{w128}
-use Rattle.topo_model.specs.Orientation.{area}
+use Rattle.plane.specs.Orientation.{area}
 use Rattle.grid_segments.proofs.areas.reaches.Goals as goal
 
 pub returns : goal.returns

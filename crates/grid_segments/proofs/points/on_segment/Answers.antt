@@ -1,5 +1,5 @@
 use Rattle.std.proofs.Common.{sym, ◌∙◌}
-use Rattle.topo_model.proofs.PointTests.{Decides-on_segment}
+use Rattle.plane.proofs.PointTests.{Decides-on_segment}
 use Rattle.grid_segments.proofs.points.on_segment.Goals as goal
 
 pub returns-clause-on : goal.returns-clause-on

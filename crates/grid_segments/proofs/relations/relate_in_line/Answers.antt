@@ -1,6 +1,6 @@
 use Rattle.std.proofs.Common.{rules, IsTrue, true, false}
-use Rattle.topo_model.specs.Relation.{IsProper}
-use Rattle.topo_model.proofs.Swap.{collinear_right, collinear_up}
+use Rattle.plane.specs.Relation.{IsProper}
+use Rattle.plane.proofs.Swap.{collinear_right, collinear_up}
 use Rattle.grid_segments.proofs.relations.relate_in_line.Goals as goal
 
 untrue : IsTrue false → ⊥

@@ -1,6 +1,6 @@
 use Rattle.std.proofs.Common.{rules, IsTrue, true, false}
-use Rattle.topo_model.specs.Relation.{IsProper}
-use Rattle.topo_model.proofs.Relations.{apart_relates, touch_relates, meet_relates, in_line}
+use Rattle.plane.specs.Relation.{IsProper}
+use Rattle.plane.proofs.Relations.{apart_relates, touch_relates, meet_relates, in_line}
 use Rattle.grid_segments.proofs.relations.relation_of.Goals as goal
 
 untrue : IsTrue false → ⊥

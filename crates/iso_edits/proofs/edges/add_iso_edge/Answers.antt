@@ -3,12 +3,12 @@ use Rattle.std.specs.Option.{option_eq}
 use Rattle.topo_base.specs.declared.edit.Edit.TheVariants.{AddIsoEdge}
 use Rattle.topo_base.specs.declared.rows.Counters.{Counters}
 use Rattle.topo_base.specs.declared.rows.NodeRow.{NodeRow}
-use Rattle.topo_model.specs.Blocked.{goes_between, is_line_blocked}
-use Rattle.topo_model.specs.Drawing.{node_at, is_isolated, has_face}
-use Rattle.topo_model.specs.Line.{is_simple}
-use Rattle.topo_model.specs.Outcome.{the_edge}
+use Rattle.drawing.specs.Blocked.{goes_between, is_line_blocked}
+use Rattle.drawing.specs.Drawing.{node_at, is_isolated, has_face}
+use Rattle.plane.specs.Line.{is_simple}
+use Rattle.drawing.specs.Outcome.{the_edge}
 use Rattle.read_set.specs.Plans.{IsPlanFor}
-use Rattle.topo_model.specs.Tables.{drawn}
+use Rattle.drawing.specs.Tables.{drawn}
 use Rattle.iso_edits.proofs.IsolatedEdges.{edge_comes, edge_comes_where, edge_writes}
 use Rattle.iso_edits.proofs.Answering.{answers_with, found_row}
 use Rattle.face_boxes.specs.Bounds.{box_with, box_write, without}

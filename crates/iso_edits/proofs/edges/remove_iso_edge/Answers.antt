@@ -1,12 +1,12 @@
 use Rattle.std.proofs.Common.{◌++◌, ◌≡◌, [], ◌∷◌, sym, ap, ◌∙◌, Some, true, false, not, ◌&&◌, ◌==◌, refl}
 use Rattle.std.proofs.lemmas.Bool.{and_parts}
 use Rattle.topo_base.specs.declared.edit.Edit.TheVariants.{RemoveIsoEdge}
-use Rattle.topo_model.specs.Drawing.{Edge, edge_at, has_only}
-use Rattle.topo_model.specs.IsoEdits.{is_in_feature, is_isolated_edge}
-use Rattle.topo_model.specs.Outcome.{the_edge}
+use Rattle.drawing.specs.Drawing.{Edge, edge_at, has_only}
+use Rattle.drawing.specs.IsoEdits.{is_in_feature, is_isolated_edge}
+use Rattle.drawing.specs.Outcome.{the_edge}
 use Rattle.read_set.specs.Plans.{IsPlanFor}
-use Rattle.topo_model.specs.Relations.{edge_type}
-use Rattle.topo_model.specs.Tables.{drawn, drawn_edge, face_box}
+use Rattle.drawing.specs.Relations.{edge_type}
+use Rattle.drawing.specs.Tables.{drawn, drawn_edge, face_box}
 use Rattle.iso_edits.proofs.IsolatedEdges.{edge_goes, edge_goes_where, gone_writes}
 use Rattle.iso_edits.proofs.Answering.{answers_with}
 use Rattle.face_boxes.specs.Bounds.{box_write, other_write, without}

@@ -1,4 +1,4 @@
-use Rattle.topo_model.specs.Writes.{edge_row_id}
+use Rattle.drawing.specs.Writes.{edge_row_id}
 use Rattle.std.proofs.Common.{◌∙◌, sym}
 use Rattle.iso_edits.proofs.FacesWritten.{side_written, row_there, face_row_there}
 use Rattle.iso_edits.proofs.face_tests.put_right.Goals as goal

@@ -1,4 +1,4 @@
-use Rattle.topo_model.specs.Drawing.{node_id_of}
+use Rattle.drawing.specs.Drawing.{node_id_of}
 use Rattle.std.proofs.Common.{◌∙◌, sym}
 use Rattle.iso_edits.proofs.FacesWritten.{containing_written, row_there, face_row_there}
 use Rattle.iso_edits.proofs.face_tests.put_within.Goals as goal

@@ -2,8 +2,8 @@ use Rattle.std.proofs.Common.{◌≡◌, ◌+◌, ◌∙◌, ap, sym, arith, dro
 use Rattle.std.specs.List.{sum_by}
 use Rattle.std.proofs.lemmas.List.Sums.{sum_by-cons}
 use Rattle.topo_base.specs.declared.rows.EdgeRow.{EdgeRow}
-use Rattle.topo_model.specs.Faces.{is_odd_over, xor}
-use Rattle.topo_model.specs.Places.{rows_of}
+use Rattle.plane.specs.Parity.{is_odd_over, xor}
+use Rattle.drawing.specs.Places.{rows_of}
 use Rattle.iso_edits.specs.Location.{border_in}
 use Rattle.edit_conditions.specs.Counted.{point_steps}
 use Rattle.iso_edits.proofs.Locating.{slots_some, slots_none, odd_more, turned, counts_for}

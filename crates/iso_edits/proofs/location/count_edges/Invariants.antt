@@ -1,7 +1,7 @@
 use Rattle.std.proofs.Common.{◌≡◌, ℕ, ◌+◌, ◌<◌, ◌≤◌, false, drop, length, get_or}
 use Rattle.std.specs.List.{sum_by}
-use Rattle.topo_model.specs.Faces.{is_odd_over, xor}
-use Rattle.topo_model.specs.Places.{rows_of}
+use Rattle.plane.specs.Parity.{is_odd_over, xor}
+use Rattle.drawing.specs.Places.{rows_of}
 use Rattle.iso_edits.specs.Location.{border_in}
 use Rattle.edit_conditions.specs.Counted.{point_steps}
 use Rattle.iso_edits.proofs.location.count_edges.Given as goal

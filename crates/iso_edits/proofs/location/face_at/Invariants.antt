@@ -1,6 +1,6 @@
 use Rattle.std.proofs.Common.{◌+◌, ◌*◌, ◌≤◌}
 use Rattle.std.specs.List.{sum_by}
-use Rattle.topo_model.specs.Tables.{drawn}
+use Rattle.drawing.specs.Tables.{drawn}
 use Rattle.edit_conditions.specs.Counted.{point_steps}
 use Rattle.iso_edits.proofs.Locating.{NoneBelow}
 use Rattle.iso_edits.proofs.location.face_at.Given as goal

@@ -1,5 +1,5 @@
 use Rattle.std.proofs.Common.{arith}
-use Rattle.topo_model.proofs.Walks.{few_segments}
+use Rattle.plane.proofs.Walks.{few_segments}
 use Rattle.iso_edits.proofs.location.is_odd_border.Goals as goal
 
 pub returns-then-has_two_faces-clause-counted : goal.returns-then-has_two_faces-clause-counted

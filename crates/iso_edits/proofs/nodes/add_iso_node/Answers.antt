@@ -1,13 +1,13 @@
 use Rattle.std.proofs.Common.{◌≡◌, [], ◌∷◌, sym, ap, ◌∙◌, false, true}
 use Rattle.topo_base.specs.declared.edit.Edit.TheVariants.{AddIsoNode}
 use Rattle.topo_base.specs.declared.rows.Counters.{Counters}
-use Rattle.topo_model.specs.Blocked.{is_blocked}
-use Rattle.topo_model.specs.Drawing.{has_face}
-use Rattle.topo_model.specs.Faces.{face_at}
-use Rattle.topo_model.specs.IsoEdits.{accepts_face, is_given_face}
-use Rattle.topo_model.specs.Outcome.{the_node}
+use Rattle.drawing.specs.Blocked.{is_blocked}
+use Rattle.drawing.specs.Drawing.{has_face}
+use Rattle.drawing.specs.Faces.{face_at}
+use Rattle.drawing.specs.IsoEdits.{accepts_face, is_given_face}
+use Rattle.drawing.specs.Outcome.{the_node}
 use Rattle.read_set.specs.Plans.{IsPlanFor}
-use Rattle.topo_model.specs.Tables.{drawn}
+use Rattle.drawing.specs.Tables.{drawn}
 use Rattle.iso_edits.proofs.IsolatedNodes.{node_comes, node_comes_where, face_listed}
 use Rattle.iso_edits.proofs.Answering.{answers_with}
 use Rattle.iso_edits.proofs.nodes.add_iso_node.Goals as goal

@@ -4,12 +4,12 @@ use Rattle.topo_base.specs.declared.edit.Edit.TheVariants.{MoveIsoNode}
 use Rattle.topo_base.specs.declared.rows.NodeRow.{NodeRow}
 use Rattle.topo_base.specs.declared.write.RowId.TheVariants.{Old}
 use Rattle.topo_base.specs.declared.write.RowWrite.TheVariants.{SetPoint}
-use Rattle.topo_model.specs.Blocked.{is_blocked_for}
-use Rattle.topo_model.specs.Drawing.{node_at, is_isolated}
-use Rattle.topo_model.specs.Faces.{face_at}
-use Rattle.topo_model.specs.Outcome.{the_node}
+use Rattle.drawing.specs.Blocked.{is_blocked_for}
+use Rattle.drawing.specs.Drawing.{node_at, is_isolated}
+use Rattle.drawing.specs.Faces.{face_at}
+use Rattle.drawing.specs.Outcome.{the_node}
 use Rattle.read_set.specs.Plans.{IsPlanFor}
-use Rattle.topo_model.specs.Tables.{drawn}
+use Rattle.drawing.specs.Tables.{drawn}
 use Rattle.iso_edits.proofs.IsolatedNodes.{node_moves, node_moves_where}
 use Rattle.iso_edits.proofs.Answering.{answers_with, found_row}
 use Rattle.iso_edits.proofs.nodes.move_iso_node.Goals as goal

@@ -3,12 +3,12 @@ use Rattle.topo_base.specs.declared.edit.Edit.TheVariants.{RemoveIsoNode}
 use Rattle.topo_base.specs.declared.rows.NodeRow.{NodeRow}
 use Rattle.topo_base.specs.declared.write.RowId.TheVariants.{Old}
 use Rattle.topo_base.specs.declared.write.RowWrite.TheVariants.{DropNode}
-use Rattle.topo_model.specs.Drawing.{node_at, is_isolated}
-use Rattle.topo_model.specs.IsoEdits.{is_in_feature}
-use Rattle.topo_model.specs.Outcome.{the_node}
+use Rattle.drawing.specs.Drawing.{node_at, is_isolated}
+use Rattle.drawing.specs.IsoEdits.{is_in_feature}
+use Rattle.drawing.specs.Outcome.{the_node}
 use Rattle.read_set.specs.Plans.{IsPlanFor}
-use Rattle.topo_model.specs.Relations.{node_type}
-use Rattle.topo_model.specs.Tables.{drawn}
+use Rattle.drawing.specs.Relations.{node_type}
+use Rattle.drawing.specs.Tables.{drawn}
 use Rattle.iso_edits.proofs.IsolatedNodes.{node_goes, node_goes_where}
 use Rattle.iso_edits.proofs.Answering.{answers_with, found_row}
 use Rattle.iso_edits.proofs.nodes.remove_iso_node.Goals as goal

@@ -1,5 +1,5 @@
 use Rattle.std.proofs.Common.{◌≡◌, ap, ◌∙◌}
-use Rattle.topo_model.specs.Tables.{Tables}
+use Rattle.drawing.specs.Tables.{Tables}
 use Rattle.topo_tables.specs.Taken.{Taken}
 use Rattle.iso_edits.proofs.Kept.{answer_kept}
 use Rattle.iso_edits.proofs.tests.serve.Goals as goal

@@ -1,6 +1,6 @@
 use Rattle.std.proofs.Common.{◌≡◌, ℕ, ap, arith, ◌∙◌}
-use Rattle.topo_model.specs.Descent.{listed_by}
-use Rattle.topo_model.specs.Tables.{drawn}
+use Rattle.drawing.specs.Descent.{listed_by}
+use Rattle.drawing.specs.Tables.{drawn}
 use Rattle.layer_tree.specs.Descending.{levels_below}
 use Rattle.layer_tree.proofs.Descents.{elements_descended}
 use Rattle.layer_tree.proofs.descent.numbers_at.Goals as goal

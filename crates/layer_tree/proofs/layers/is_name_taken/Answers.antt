@@ -1,4 +1,4 @@
-use Rattle.topo_model.specs.Places.{rows_of}
+use Rattle.drawing.specs.Places.{rows_of}
 use Rattle.edit_conditions.proofs.RowTests.{all_fit}
 use Rattle.layer_tree.proofs.layers.is_name_taken.Goals as goal
 

@@ -1,7 +1,7 @@
 use Rattle.std.proofs.Common.{◌≡◌, refl, ap, arith, Some}
 use Rattle.topo_base.specs.declared.rows.LayerRow.{LayerRow}
-use Rattle.topo_model.specs.Drawing.{layer_at, layer_id_of}
-use Rattle.topo_model.specs.Tables.{Tables, drawn}
+use Rattle.drawing.specs.Drawing.{layer_at, layer_id_of}
+use Rattle.drawing.specs.Tables.{Tables, drawn}
 use Rattle.layer_tree.proofs.Found.{found_row, own_there}
 use Rattle.layer_tree.proofs.Levels.{level_below}
 use Rattle.layer_tree.proofs.layers.on_child.Goals as goal

@@ -1,5 +1,5 @@
 use Rattle.std.proofs.Common.{◌≡◌, drop}
-use Rattle.topo_model.specs.Relations.{is_among}
+use Rattle.drawing.specs.Relations.{is_among}
 use Rattle.layer_tree.proofs.numbers.is_among.Given as goal
 
 -- none of the numbers before this one is it

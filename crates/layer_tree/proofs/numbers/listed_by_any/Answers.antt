@@ -1,6 +1,6 @@
 use Rattle.std.proofs.Common.{true, false, refl, sym, ◌∙◌}
 use Rattle.topo_base.specs.declared.rows.RelationRow.{RelationRow}
-use Rattle.topo_model.specs.Relations.{is_among}
+use Rattle.drawing.specs.Relations.{is_among}
 use Rattle.layer_tree.specs.Descending.{listed_by_any}
 use Rattle.layer_tree.proofs.Listing.{listed_step}
 use Rattle.layer_tree.proofs.numbers.listed_by_any.Goals as goal

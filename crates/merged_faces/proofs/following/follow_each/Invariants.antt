@@ -1,5 +1,5 @@
 use Rattle.std.proofs.Common.{◌≡◌, drop}
-use Rattle.topo_model.specs.Drawing.{Drawing}
+use Rattle.drawing.specs.Drawing.{Drawing}
 use Rattle.read_set.specs.Drafted.{IsDraftOf}
 use Rattle.relation_rows.specs.KnownRows.{KnowsRows}
 use Rattle.merged_faces.specs.Merging.{one_by_one}

@@ -1,8 +1,8 @@
 use Rattle.std.proofs.Common.{◌∷◌, [], ap, subst, sym, ◌∙◌}
 use Rattle.std.proofs.lemmas.Result.{on_ok_weaker}
-use Rattle.topo_model.specs.Content.{listing}
-use Rattle.topo_model.specs.Relations.{face_type, lists_element}
-use Rattle.topo_model.specs.Tables.{Tables, drawn}
+use Rattle.drawing.specs.Content.{listing}
+use Rattle.drawing.specs.Relations.{face_type, lists_element}
+use Rattle.drawing.specs.Tables.{Tables, drawn}
 use Rattle.read_set.specs.Drafted.{Drafted}
 use Rattle.relation_rows.specs.KnownRows.{KnowsRows}
 use Rattle.relation_rows.proofs.MergedInto.{rows_features}

@@ -1,7 +1,7 @@
 use Rattle.std.proofs.Common.{sym, subst, ap, ◌∙◌, List}
 use Rattle.topo_base.specs.declared.write.RowWrite.{RowWrite}
-use Rattle.topo_model.specs.Tables.{Tables, drawn, face_box}
-use Rattle.topo_model.specs.Writable.{CanWriteAll}
+use Rattle.drawing.specs.Tables.{Tables, drawn, face_box}
+use Rattle.drawing.specs.Writable.{CanWriteAll}
 use Rattle.merged_faces.specs.Last.{last_writes}
 use Rattle.merged_faces.proofs.MergedBoxes.{rows_can}
 use Rattle.merged_faces.proofs.merge.close.Goals as goal

@@ -1,5 +1,5 @@
 use Rattle.std.proofs.Common.{◌∙◌}
-use Rattle.topo_model.specs.Tables.{face_row}
+use Rattle.drawing.specs.Tables.{face_row}
 use Rattle.merged_faces.proofs.Outcomes.{alone_is, alone_merge}
 use Rattle.merged_faces.proofs.merging.keep_alone.Goals as goal
 

@@ -1,4 +1,4 @@
-use Rattle.topo_model.specs.Tables.{face_row}
+use Rattle.drawing.specs.Tables.{face_row}
 use Rattle.merged_faces.proofs.Outcomes.{one_merge}
 use Rattle.merged_faces.proofs.merging.keep_one.Goals as goal
 

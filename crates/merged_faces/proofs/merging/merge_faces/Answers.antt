@@ -1,7 +1,7 @@
 use Rattle.std.proofs.Common.{◌==◌, eq-eqb, ap, sym, ◌∙◌}
 use Rattle.std.proofs.lemmas.Result.{on_ok_weaker}
-use Rattle.topo_model.specs.Outcome.{Accepted}
-use Rattle.topo_model.specs.Tables.{tables_of}
+use Rattle.drawing.specs.Outcome.{Accepted}
+use Rattle.drawing.specs.Tables.{tables_of}
 use Rattle.merged_faces.specs.Merging.{with_merged}
 use Rattle.merged_faces.proofs.Outcomes.{at_alone, at_anew, at_kept, at_left_zero, at_right_zero, differs}
 use Rattle.merged_faces.proofs.merging.merge_faces.Goals as goal

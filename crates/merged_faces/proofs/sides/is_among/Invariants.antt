@@ -1,5 +1,5 @@
 use Rattle.std.proofs.Common.{◌≡◌, drop}
-use Rattle.topo_model.specs.Relations.{is_among}
+use Rattle.drawing.specs.Relations.{is_among}
 use Rattle.merged_faces.proofs.sides.is_among.Given as goal
 
 -- whether the face is one of these is whether it is one of the rest

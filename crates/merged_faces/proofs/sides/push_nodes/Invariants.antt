@@ -1,5 +1,5 @@
 use Rattle.std.proofs.Common.{◌≡◌, ◌++◌, drop, flat_map}
-use Rattle.topo_model.specs.Places.{rows_of}
+use Rattle.drawing.specs.Places.{rows_of}
 use Rattle.merged_faces.specs.Sides.{node_write}
 use Rattle.merged_faces.proofs.sides.push_nodes.Given as goal
 

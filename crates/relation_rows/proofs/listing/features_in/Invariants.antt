@@ -1,6 +1,6 @@
 use Rattle.std.proofs.Common.{◌≡◌, ◌+◌, ◌*◌, ◌≤◌, ◌++◌, map, filter, drop, length}
-use Rattle.topo_model.specs.Relations.{lists_element}
-use Rattle.topo_model.specs.Tables.{drawn}
+use Rattle.drawing.specs.Relations.{lists_element}
+use Rattle.drawing.specs.Tables.{drawn}
 use Rattle.relation_rows.specs.Following.{feature_of}
 use Rattle.relation_rows.proofs.listing.features_in.Given as goal
 

@@ -1,6 +1,6 @@
 use Rattle.std.proofs.Common.{◌≡◌, map, drop}
-use Rattle.topo_model.specs.Drawing.{feature_id_of}
-use Rattle.topo_model.specs.RemoveEdge.{same_numbers}
+use Rattle.drawing.specs.Drawing.{feature_id_of}
+use Rattle.drawing.specs.RemoveEdge.{same_numbers}
 use Rattle.relation_rows.proofs.same.have_same_ids.Given as goal
 
 -- the features before this place are the same

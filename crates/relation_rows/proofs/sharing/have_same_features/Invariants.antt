@@ -1,6 +1,6 @@
 use Rattle.std.proofs.Common.{length, ◌-◌, ◌≡◌, ◌≤◌, drop}
-use Rattle.topo_model.specs.RemoveEdge.{have_same_features, same_numbers}
-use Rattle.topo_model.specs.Tables.{drawn}
+use Rattle.drawing.specs.RemoveEdge.{have_same_features, same_numbers}
+use Rattle.drawing.specs.Tables.{drawn}
 use Rattle.relation_rows.specs.Features.{features_in}
 use Rattle.relation_rows.proofs.sharing.have_same_features.Given as goal
 

@@ -1,5 +1,5 @@
 use Rattle.std.proofs.Common.{length, ◌-◌, ◌≡◌, ◌≤◌, drop}
-use Rattle.topo_model.specs.Tables.{drawn}
+use Rattle.drawing.specs.Tables.{drawn}
 use Rattle.relation_rows.specs.Features.{features_in}
 use Rattle.relation_rows.proofs.sharing.next_listing.Given as goal
 

@@ -1,7 +1,7 @@
 use Rattle.std.proofs.Common.{◌≡◌, ◌≤◌, length, map}
 use Rattle.std.specs.Vec.Iter.{into_iter_items}
 use Rattle.indexmap.specs.IndexMap.{spare}
-use Rattle.topo_model.specs.Bindings.{bound}
+use Rattle.script_model.specs.Bindings.{bound}
 use Rattle.script_reader.specs.Bindings.{names_of, with_bytes}
 use Rattle.script_reader.proofs.bindings.put_all.Given as goal
 

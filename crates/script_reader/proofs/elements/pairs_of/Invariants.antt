@@ -1,9 +1,9 @@
 use Rattle.std.proofs.Common.{◌≡◌, ◌≤◌, ◌++◌, IsTrue, length}
 use Rattle.std.specs.Prelude.{flat_map}
 use Rattle.std.specs.List.{list_all}
-use Rattle.topo_model.specs.NamedRange.{is_named_pair}
-use Rattle.topo_model.specs.NamedWords.{named_pair_words}
-use Rattle.topo_model.specs.Script.{words_of}
+use Rattle.script_model.specs.NamedRange.{is_named_pair}
+use Rattle.script_model.specs.NamedWords.{named_pair_words}
+use Rattle.script_model.specs.Script.{words_of}
 use Rattle.script_reader.proofs.elements.pairs_of.Given as goal
 
 -- the elements so far are the words before the rest

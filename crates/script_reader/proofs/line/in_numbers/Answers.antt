@@ -1,5 +1,5 @@
 use Rattle.std.proofs.Common.{◌≡◌, Some, sym, subst}
-use Rattle.topo_model.specs.Bindings.{resolve}
+use Rattle.script_model.specs.Bindings.{resolve}
 use Rattle.script_reader.proofs.NamedEdits.{in_numbers-resolved}
 use Rattle.script_reader.proofs.line.in_numbers.Goals as goal
 

@@ -1,6 +1,6 @@
 use Rattle.std.proofs.Common.{◌≡◌, ◌∷◌, sym, ◌∙◌, arith, length, drop}
 use Rattle.std.proofs.lemmas.List.{take_all, drop_all}
-use Rattle.topo_model.specs.Script.{lines_of}
+use Rattle.script_model.specs.Script.{lines_of}
 use Rattle.script_reader.proofs.LineEnds.{lines_front, lines_alone}
 use Rattle.script_reader.proofs.lines.first_line.Goals as goal
 

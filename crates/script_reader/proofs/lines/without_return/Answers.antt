@@ -1,7 +1,7 @@
 use Rattle.std.proofs.Common.{◌≡◌, ℕ, List, [], ◌∷◌, ◌++◌, Option, Some, None, Bor, sym, ap, ◌∙◌, subst, append_assoc}
 use Rattle.std.proofs.lemmas.Bool.Decides.{Decides-eqb}
 use Rattle.std.proofs.lemmas.Slice.Eq.{strip_suffix_is}
-use Rattle.topo_model.specs.Script.{is_line_feed, without_returns}
+use Rattle.script_model.specs.Script.{is_line_feed, without_returns}
 use Rattle.script_reader.specs.Parting.{IsWhole}
 use Rattle.script_reader.proofs.LineEnds.{returns_kept, returns_dropped, whole_front}
 use Rattle.script_reader.proofs.lines.without_return.Goals as goal

@@ -1,7 +1,7 @@
 use Rattle.std.proofs.Common.{◌≡◌, [], ◌∷◌, ◌++◌, IsTrue, length}
 use Rattle.std.specs.List.{list_all}
 use Rattle.topo_base.specs.Names.{is_name}
-use Rattle.topo_model.specs.Script.{pieces}
+use Rattle.script_model.specs.Script.{pieces}
 use Rattle.script_reader.specs.Parting.{is_comma}
 use Rattle.script_reader.proofs.names.names_of.Given as goal
 

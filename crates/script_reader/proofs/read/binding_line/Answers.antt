@@ -1,6 +1,6 @@
 use Rattle.std.proofs.Common.{List, ℕ, subst, rules, ◌∷◌}
 use Rattle.topo_base.specs.declared.named.NamedEdit.{NamedEdit}
-use Rattle.topo_model.specs.Script.{words_of}
+use Rattle.script_model.specs.Script.{words_of}
 use Rattle.script_reader.specs.Reading.{AreNames, IsEdit}
 use Rattle.script_reader.proofs.EditWords.{no_edit, binding_parts}
 use Rattle.script_reader.proofs.read.binding_line.Goals as goal

@@ -1,7 +1,7 @@
 use Rattle.std.proofs.Common.{◌∷◌, ◌++◌, ◌∙◌, sym, ap, rules}
 use Rattle.std.proofs.lemmas.Bool.Decides.{Decides-eqb}
 use Rattle.std.proofs.lemmas.Slice.Eq.{starts_is}
-use Rattle.topo_model.specs.Script.{is_comment, words_of}
+use Rattle.script_model.specs.Script.{is_comment, words_of}
 use Rattle.script_reader.specs.Reading.{AreWordsOf}
 use Rattle.script_reader.proofs.ScriptSteps.{not_comment}
 use Rattle.script_reader.proofs.read.read_line.Goals as goal

@@ -1,8 +1,8 @@
 use Rattle.std.proofs.Common.{◌≡◌, ℕ, List, [], ◌∷◌, ◌++◌, length, subst, rules, inl, inr, append-nil}
 use Rattle.std.proofs.lemmas.List.{nil_from_length}
 use Rattle.topo_base.specs.ScriptLines.{ScriptLine}
-use Rattle.topo_model.specs.Script.{AreLines, edit_lines, lines_of}
-use Rattle.topo_model.specs.NamedRange.{is_script_line}
+use Rattle.script_model.specs.Script.{AreLines, edit_lines, lines_of}
+use Rattle.script_model.specs.NamedRange.{is_script_line}
 use Rattle.script_reader.specs.Reading.{IsReading}
 use Rattle.script_reader.specs.declared.read.Reading.TheVariants.{Skipped, Edit}
 use Rattle.script_reader.proofs.ScriptSteps.{skipped_more, edit_more, bad_more}

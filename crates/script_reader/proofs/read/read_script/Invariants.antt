@@ -1,7 +1,7 @@
 use Rattle.std.proofs.Common.{ℕ, ◌+◌, ◌≤◌, List, ◌++◌, length}
 use Rattle.topo_base.specs.ScriptLines.{ScriptLine}
-use Rattle.topo_model.specs.Script.{AreLines, IsFirstBadLine, edit_lines, lines_of}
-use Rattle.topo_model.specs.NamedRange.{is_script_line}
+use Rattle.script_model.specs.Script.{AreLines, IsFirstBadLine, edit_lines, lines_of}
+use Rattle.script_model.specs.NamedRange.{is_script_line}
 use Rattle.script_reader.proofs.read.read_script.Given as goal
 
 -- what is found in the rest holds behind the lines so far

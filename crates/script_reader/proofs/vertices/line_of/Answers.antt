@@ -1,5 +1,5 @@
 use Rattle.std.proofs.Common.{rules}
-use Rattle.topo_model.specs.Script.{words_of}
+use Rattle.script_model.specs.Script.{words_of}
 use Rattle.script_reader.specs.Reading.{AreVertices}
 use Rattle.script_reader.proofs.VertexWords.{no_line}
 use Rattle.script_reader.proofs.vertices.line_of.Goals as goal

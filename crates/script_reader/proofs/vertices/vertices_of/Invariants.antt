@@ -1,8 +1,8 @@
 use Rattle.std.proofs.Common.{◌≡◌, ◌≤◌, ◌++◌, IsTrue, length}
 use Rattle.std.specs.List.{list_all}
-use Rattle.topo_model.specs.InRange.{is_grid_point}
-use Rattle.topo_model.specs.Script.{words_of}
-use Rattle.topo_model.specs.Words.{line_words}
+use Rattle.drawing.specs.InRange.{is_grid_point}
+use Rattle.script_model.specs.Script.{words_of}
+use Rattle.script_model.specs.Words.{line_words}
 use Rattle.script_reader.proofs.vertices.vertices_of.Given as goal
 
 -- the vertices so far are the words before the rest

@@ -1,5 +1,5 @@
 use Rattle.std.proofs.Common.{◌≡◌, drop}
-use Rattle.topo_model.specs.Script.{words_of}
+use Rattle.script_model.specs.Script.{words_of}
 use Rattle.script_reader.proofs.words.without_blanks.Given as goal
 
 -- what is left has the words of the line

@@ -2,9 +2,9 @@ use Rattle.std.proofs.Common.{◌≡◌, ℕ, List, length, ◌++◌, ◌∷◌,
 use Rattle.std.specs.Prelude.{codes}
 use Rattle.std.specs.Fmt.{decimal}
 use Rattle.topo_base.specs.declared.rows.FeatureRow.{FeatureRow}
-use Rattle.topo_model.specs.Texts.{number_words}
-use Rattle.topo_model.specs.Words.{spaced}
-use Rattle.topo_model.proofs.Lines.{line_of-two}
+use Rattle.script_model.specs.Texts.{number_words}
+use Rattle.script_model.specs.Words.{spaced}
+use Rattle.script_model.proofs.Lines.{line_of-two}
 use Rattle.table_print.proofs.features.push_line.Goals as goal
 
 pub returns : goal.returns

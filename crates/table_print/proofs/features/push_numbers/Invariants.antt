@@ -1,6 +1,6 @@
 use Rattle.std.proofs.Common.{◌≡◌, ◌++◌, drop}
-use Rattle.topo_model.specs.Texts.{number_words}
-use Rattle.topo_model.specs.Words.{spaced}
+use Rattle.script_model.specs.Texts.{number_words}
+use Rattle.script_model.specs.Words.{spaced}
 use Rattle.table_print.proofs.features.push_numbers.Given as goal
 
 -- the numbers so far, and those to come

@@ -2,10 +2,10 @@ use Rattle.std.proofs.Common.{ℕ, List, Option, ◌++◌, ap, ◌∙◌}
 use Rattle.std.specs.Prelude.{flat_map}
 use Rattle.std.proofs.lemmas.List.{take_all}
 use Rattle.topo_base.specs.declared.rows.FeatureRow.{FeatureRow}
-use Rattle.topo_model.specs.Places.{at_slot}
-use Rattle.topo_model.specs.Tables.{drawn}
-use Rattle.topo_model.specs.Texts.{descent_text}
-use Rattle.topo_model.proofs.RowLemmas.{flat_map-places}
+use Rattle.drawing.specs.Places.{at_slot}
+use Rattle.drawing.specs.Tables.{drawn}
+use Rattle.script_model.specs.Texts.{descent_text}
+use Rattle.drawing.proofs.RowLemmas.{flat_map-places}
 use Rattle.table_print.proofs.features.push_slots.Goals as goal
 
 pub returns : goal.returns

@@ -1,8 +1,8 @@
 use Rattle.std.proofs.Common.{◌≡◌, ◌++◌, take}
 use Rattle.std.specs.Prelude.{flat_map}
-use Rattle.topo_model.specs.Places.{at_slot}
-use Rattle.topo_model.specs.Tables.{drawn}
-use Rattle.topo_model.specs.Texts.{descent_text}
+use Rattle.drawing.specs.Places.{at_slot}
+use Rattle.drawing.specs.Tables.{drawn}
+use Rattle.script_model.specs.Texts.{descent_text}
 use Rattle.table_print.proofs.features.push_slots.Given as goal
 
 -- the lines of the features so far

@@ -1,5 +1,5 @@
 use Rattle.std.proofs.Common.{◌+◌, ◌++◌, List, ℕ, sym, ap, ◌∙◌, append_assoc, take}
-use Rattle.topo_model.specs.Texts.{entry_text, entries_text}
+use Rattle.script_model.specs.Texts.{entry_text, entries_text}
 use Rattle.table_print.proofs.Entries.{entries_more}
 use Rattle.table_print.proofs.history.push_entries.Goals as goal
 

@@ -1,5 +1,5 @@
 use Rattle.std.proofs.Common.{◌≡◌, ◌++◌, take}
-use Rattle.topo_model.specs.Texts.{entries_text}
+use Rattle.script_model.specs.Texts.{entries_text}
 use Rattle.table_print.proofs.history.push_entries.Given as goal
 
 -- the lines of the entries so far

@@ -2,9 +2,9 @@ use Rattle.std.proofs.Common.{◌≡◌, ℕ, List, ◌++◌, refl, subst, ap, �
 use Rattle.std.specs.Prelude.{codes, flat_map}
 use Rattle.std.specs.Fmt.{digits}
 use Rattle.topo_base.specs.declared.rows.FaceRow.{FaceRow}
-use Rattle.topo_model.specs.Tables.{universal_face}
-use Rattle.topo_model.specs.Places.{rows_of}
-use Rattle.topo_model.specs.Texts.{face_text}
+use Rattle.drawing.specs.Tables.{universal_face}
+use Rattle.drawing.specs.Places.{rows_of}
+use Rattle.script_model.specs.Texts.{face_text}
 use Rattle.table_print.proofs.rows.push_faces.Goals as goal
 
 universal_line : codes "face 0 -\n" ≡ face_text universal_face

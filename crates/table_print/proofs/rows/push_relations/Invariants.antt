@@ -1,6 +1,6 @@
 use Rattle.std.proofs.Common.{◌≡◌, ◌++◌, take}
 use Rattle.std.specs.Prelude.{flat_map}
-use Rattle.topo_model.specs.Texts.{relation_text}
+use Rattle.script_model.specs.Texts.{relation_text}
 use Rattle.table_print.proofs.rows.push_relations.Given as goal
 
 abbrev pub invariant-loop-row : goal.invariant-loop-row

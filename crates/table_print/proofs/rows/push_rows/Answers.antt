@@ -1,8 +1,8 @@
 use Rattle.std.proofs.Common.{ℕ, List, Option, ◌++◌, ap, ◌∙◌}
 use Rattle.std.specs.Prelude.{flat_map}
 use Rattle.std.proofs.lemmas.List.{take_all}
-use Rattle.topo_model.specs.Places.{at_slot}
-use Rattle.topo_model.proofs.RowLemmas.{flat_map-places}
+use Rattle.drawing.specs.Places.{at_slot}
+use Rattle.drawing.proofs.RowLemmas.{flat_map-places}
 use Rattle.table_print.proofs.rows.push_rows.Goals as goal
 
 pub returns : goal.returns

@@ -1,6 +1,6 @@
 use Rattle.std.proofs.Common.{◌≡◌, ◌++◌, take}
 use Rattle.std.specs.Prelude.{flat_map}
-use Rattle.topo_model.specs.Places.{at_slot}
+use Rattle.drawing.specs.Places.{at_slot}
 use Rattle.table_print.proofs.rows.push_rows.Given as goal
 
 abbrev pub invariant-loop-slot : goal.invariant-loop-slot

@@ -1,7 +1,7 @@
 use Rattle.std.proofs.Common.{◌≡◌, ◌≤◌, ℕ, List, Err, ap, sym, subst, length}
-use Rattle.topo_model.specs.NamedRange.{is_script_line}
-use Rattle.topo_model.specs.Script.{IsScript, IsFirstBad, lines_of, edit_lines}
-use Rattle.topo_model.proofs.Scripts.{script_spelled}
+use Rattle.script_model.specs.NamedRange.{is_script_line}
+use Rattle.script_model.specs.Script.{IsScript, IsFirstBad, lines_of, edit_lines}
+use Rattle.script_model.proofs.Scripts.{script_spelled}
 use Rattle.topo.specs.Endings.{max_source, had_script, bad_line}
 use Rattle.topo.specs.Output.{Tells, fault_line}
 use Rattle.topo.specs.Views.{SinkView}

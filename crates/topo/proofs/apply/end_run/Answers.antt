@@ -1,7 +1,7 @@
 use Rattle.std.proofs.Common.{◌≡◌, ℕ, Bool, Result, Ok, Err, ap, subst, sym, ◌∙◌, inl, inr}
 use Rattle.topo_io.specs.Causes.{Rose}
-use Rattle.topo_model.specs.Replay.{replay}
-use Rattle.topo_model.specs.Texts.{tables_text}
+use Rattle.drawing.specs.Replay.{replay}
+use Rattle.script_model.specs.Texts.{tables_text}
 use Rattle.topo.specs.declared.run.Stop.{Stop}
 use Rattle.topo.specs.Output.{Prints}
 use Rattle.topo.specs.Views.{SinkView}

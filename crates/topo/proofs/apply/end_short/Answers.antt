@@ -1,8 +1,8 @@
 use Rattle.std.proofs.Common.{refl, inl}
 use Rattle.std.specs.Prelude.{codes}
 use Rattle.topo_io.proofs.Written.{front_longer}
-use Rattle.topo_model.specs.Replay.{replay}
-use Rattle.topo_model.specs.Texts.{tables_text}
+use Rattle.drawing.specs.Replay.{replay}
+use Rattle.script_model.specs.Texts.{tables_text}
 use Rattle.topo.specs.Output.{print_cut}
 use Rattle.topo.specs.Views.{SinkView}
 use Rattle.topo.proofs.Ends.{prints_then}

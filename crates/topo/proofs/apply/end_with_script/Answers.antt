@@ -1,7 +1,7 @@
 use Rattle.std.proofs.Common.{◌≡◌, IsTrue, false, ℕ, List, Bool, ap, sym, subst, ◌∙◌}
 use Rattle.topo_base.specs.declared.edit.Entry.{Entry}
-use Rattle.topo_model.specs.Answers.{Bounds}
-use Rattle.topo_model.specs.Legal.{is_legal}
+use Rattle.history_model.specs.Answers.{Bounds}
+use Rattle.history_model.specs.Legal.{is_legal}
 use Rattle.topo.specs.Endings.{standard}
 use Rattle.topo.specs.Running.{IsBegun}
 use Rattle.topo.specs.Views.{SinkView, DiskView}

@@ -1,8 +1,8 @@
 use Rattle.std.proofs.Common.{◌≡◌, ℕ, List, sym, subst, ◌∙◌}
 use Rattle.topo_base.specs.declared.edit.Entry.{Entry}
 use Rattle.topo_desk.specs.Boarded.{bounds_of}
-use Rattle.topo_model.specs.Answers.{Bounds}
-use Rattle.topo_model.specs.Journal.{StandsFor, IsBadAt}
+use Rattle.history_model.specs.Answers.{Bounds}
+use Rattle.history_model.specs.Journal.{StandsFor, IsBadAt}
 use Rattle.topo_recover.specs.Recovered.{IsKept}
 use Rattle.topo.specs.Endings.{standard, RunsOn, ran, nothing_read, WasRecovered}
 use Rattle.topo.specs.Views.{SinkView, DiskView}

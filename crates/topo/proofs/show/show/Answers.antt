@@ -1,8 +1,8 @@
 use Rattle.std.proofs.Common.{◌≡◌, IsTrue, ℕ, List, sym, subst, ◌∙◌}
 use Rattle.topo_desk.specs.Boarded.{bounds_of}
-use Rattle.topo_model.specs.Answers.{Bounds}
-use Rattle.topo_model.specs.Journal.{StandsFor, IsBadAt}
-use Rattle.topo_model.specs.Legal.{is_legal}
+use Rattle.history_model.specs.Answers.{Bounds}
+use Rattle.history_model.specs.Journal.{StandsFor, IsBadAt}
+use Rattle.history_model.specs.Legal.{is_legal}
 use Rattle.topo_recover.specs.Recovered.{IsKept}
 use Rattle.topo.specs.Endings.{standard, Showed, showed, nothing_shown}
 use Rattle.topo.specs.Views.{SinkView, DiskView}

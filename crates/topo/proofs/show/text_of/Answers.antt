@@ -1,9 +1,9 @@
 use Rattle.std.proofs.Common.{◌≡◌, ℕ, List, ap, subst, ◌∙◌, sym, IfOk}
-use Rattle.topo_model.specs.Drawing.{Drawing}
-use Rattle.topo_model.specs.Replay.{replay}
-use Rattle.topo_model.specs.Tables.{drawn}
-use Rattle.topo_model.specs.Texts.{features_text}
-use Rattle.topo_model.proofs.TableLemmas.{drawn-tables_of}
+use Rattle.drawing.specs.Drawing.{Drawing}
+use Rattle.drawing.specs.Replay.{replay}
+use Rattle.drawing.specs.Tables.{drawn}
+use Rattle.script_model.specs.Texts.{features_text}
+use Rattle.drawing.proofs.TableLemmas.{drawn-tables_of}
 use Rattle.topo.specs.declared.words.Shown.{Shown}
 use Rattle.topo.specs.Endings.{shown_text}
 use Rattle.topo.proofs.show.text_of.Goals as goal

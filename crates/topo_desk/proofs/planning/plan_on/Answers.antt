@@ -1,6 +1,6 @@
 use Rattle.std.proofs.Common.{◌≡◌, sym, ap, subst, ◌∙◌}
 use Rattle.edit_plan.specs.Ready.{IsReady}
-use Rattle.topo_model.specs.Tables.{Tables, tables_of, drawn}
+use Rattle.drawing.specs.Tables.{Tables, tables_of, drawn}
 use Rattle.topo_tables.specs.Taken.{Taken}
 use Rattle.topo_desk.proofs.PlannedOn.{answered_edit, answered_plan, answered_refused}
 use Rattle.topo_desk.proofs.planning.plan_on.Goals as goal

@@ -1,11 +1,11 @@
 use Rattle.std.proofs.Common.{rules, ◌≡◌, ◌<◌, ◌+◌, ◌^◌, ◌++◌, ◌∷◌, [], ℕ, List, false, Ok, IfSome, IsTrue, length, take, drop, if◌then◌else◌, sym, ◌∙◌, ap, subst, arith}
 use Rattle.std.proofs.lemmas.List.{take_at}
 use Rattle.topo_base.specs.declared.edit.Entry.{Entry}
-use Rattle.topo_model.specs.InRange.{is_spelled}
-use Rattle.topo_model.specs.Legal.{journal_length}
-use Rattle.topo_model.specs.Replay.{replay}
-use Rattle.topo_model.specs.Spelling.{number_bytes, entry_bytes}
-use Rattle.topo_model.specs.Journal.{may_stand}
+use Rattle.drawing.specs.InRange.{is_spelled}
+use Rattle.history_model.specs.Legal.{journal_length}
+use Rattle.drawing.specs.Replay.{replay}
+use Rattle.history_model.specs.Spelling.{number_bytes, entry_bytes}
+use Rattle.history_model.specs.Journal.{may_stand}
 use Rattle.topo_recover.specs.Reached.{IsReadTo}
 use Rattle.topo_recover.proofs.Gates.{bad_at, bad_here, framed_body, framed_here, unlike, done_may, next_place, short_body, read_on}
 use Rattle.topo_recover.proofs.entries.enter.Goals as goal

@@ -1,5 +1,5 @@
 use Rattle.std.proofs.Common.{◌≡◌, ◌∙◌, subst}
-use Rattle.topo_model.specs.Journal.{IsBadAt}
+use Rattle.history_model.specs.Journal.{IsBadAt}
 use Rattle.topo_recover.proofs.entries.enter_all.Goals as goal
 
 pub returns-in-Err-clause-bad : goal.returns-in-Err-clause-bad

@@ -1,5 +1,5 @@
 use Rattle.std.proofs.Common.{◌≡◌, ◌<◌, ◌+◌, ◌-◌}
-use Rattle.topo_model.specs.Legal.{journal_length}
+use Rattle.history_model.specs.Legal.{journal_length}
 use Rattle.topo_recover.specs.Reached.{IsReadTo}
 use Rattle.topo_recover.proofs.entries.enter_all.Given as goal
 

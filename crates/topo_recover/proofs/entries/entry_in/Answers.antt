@@ -1,6 +1,6 @@
 use Rattle.std.proofs.Common.{[], Err, sym, ◌∙◌, ap}
 use Rattle.std.proofs.lemmas.List.{append-nil}
-use Rattle.topo_model.specs.Spelling.{entry_bytes}
+use Rattle.history_model.specs.Spelling.{entry_bytes}
 use Rattle.topo_recover.proofs.Gates.{whole_spelling, all_spelled}
 use Rattle.topo_recover.proofs.entries.entry_in.Goals as goal
 

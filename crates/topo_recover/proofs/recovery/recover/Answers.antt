@@ -1,6 +1,6 @@
 use Rattle.std.proofs.Common.{◌≡◌, ℕ, List, [], IfErr, refl, sym, ◌∙◌, subst}
 use Rattle.std.proofs.lemmas.Result.{IfOk-weaker, IfErr-weaker}
-use Rattle.topo_model.specs.Journal.{IsBadAt, IsNoJournalYet}
+use Rattle.history_model.specs.Journal.{IsBadAt, IsNoJournalYet}
 use Rattle.topo_desk.specs.Boarded.{bounds_of}
 use Rattle.topo_recover.specs.declared.end.RecoverEnd.TheVariants.{NoJournal}
 use Rattle.topo_recover.specs.declared.header.Header.{Header}

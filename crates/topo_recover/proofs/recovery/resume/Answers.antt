@@ -1,6 +1,6 @@
 use Rattle.std.proofs.Common.{◌<◌, ℕ, List, length, take, sym, ◌∙◌, ap, subst, arith}
-use Rattle.topo_model.specs.Answers.{Bounds}
-use Rattle.topo_model.specs.Journal.{StandsFor}
+use Rattle.history_model.specs.Answers.{Bounds}
+use Rattle.history_model.specs.Journal.{StandsFor}
 use Rattle.topo_journal.specs.Kept.{IsFront, IsClosedAfter, history as bodies_in}
 use Rattle.topo_desk.specs.Boarded.{Boarded}
 use Rattle.topo_recover.proofs.Gates.{adopts, stands_here}

@@ -1,7 +1,7 @@
 use Rattle.std.proofs.Common.{◌∙◌, sym, ap, subst}
 use Rattle.std.specs.List.{list_any}
-use Rattle.topo_model.specs.Relations.{same_row}
-use Rattle.topo_model.specs.Writable.{CanWrite}
+use Rattle.drawing.specs.Relations.{same_row}
+use Rattle.drawing.specs.Writable.{CanWrite}
 use Rattle.topo_tables.proofs.relation_tests.drop_from.Goals as goal
 
 pub write-requires-clause-can : goal.write-requires-clause-can

@@ -1,5 +1,5 @@
 use Rattle.std.proofs.Common.{refl}
-use Rattle.topo_model.specs.Drawing.{layer_id_of}
+use Rattle.drawing.specs.Drawing.{layer_id_of}
 use Rattle.topo_tables.proofs.PlaceLemmas.{has_if_found}
 use Rattle.topo_tables.proofs.relation_tests.has_layer.Goals as goal
 

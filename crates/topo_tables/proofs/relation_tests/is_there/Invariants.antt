@@ -1,6 +1,6 @@
 use Rattle.std.proofs.Common.{◌≡◌, drop}
 use Rattle.std.specs.List.{list_any}
-use Rattle.topo_model.specs.Relations.{same_row}
+use Rattle.drawing.specs.Relations.{same_row}
 use Rattle.topo_tables.proofs.relation_tests.is_there.Given as goal
 
 -- the row isn't before this place

@@ -1,5 +1,5 @@
 use Rattle.std.proofs.Common.{◌≡◌, ◌++◌, take, drop}
-use Rattle.topo_model.specs.Relations.{insert_row}
+use Rattle.drawing.specs.Relations.{insert_row}
 use Rattle.topo_tables.proofs.relations.place_for.Given as goal
 
 -- the row comes behind the rows before this place

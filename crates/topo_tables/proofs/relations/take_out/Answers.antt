@@ -1,6 +1,6 @@
 use Rattle.std.proofs.Common.{rules, tests, not}
 use Rattle.std.proofs.lemmas.Fn.{filter_same}
-use Rattle.topo_model.specs.Relations.{same_row}
+use Rattle.drawing.specs.Relations.{same_row}
 use Rattle.topo_tables.proofs.relations.take_out.Goals as goal
 
 pub returns-clause-rows : goal.returns-clause-rows

@@ -1,4 +1,4 @@
-use Rattle.topo_model.specs.Drawing.{node_id_of}
+use Rattle.drawing.specs.Drawing.{node_id_of}
 use Rattle.topo_tables.proofs.PlaceLemmas.{there_if_found}
 use Rattle.topo_tables.proofs.tests.drop_from.Goals as goal
 

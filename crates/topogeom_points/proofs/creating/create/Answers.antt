@@ -1,5 +1,5 @@
 use Rattle.std.proofs.Common.{refl}
-use Rattle.topo_model.specs.Drawing.{layer_id_of}
+use Rattle.drawing.specs.Drawing.{layer_id_of}
 use Rattle.layer_tree.proofs.Found.{found_row, own_there}
 use Rattle.topogeom_points.proofs.creating.create.Goals as goal
 

@@ -3,8 +3,8 @@ use Rattle.topo_base.specs.declared.rows.Counters.{Counters}
 use Rattle.topo_base.specs.declared.rows.LayerRow.{LayerRow}
 use Rattle.topo_base.specs.declared.write.RowId.TheVariants.{Old}
 use Rattle.topo_base.specs.declared.write.RowWrite.TheVariants.{AddFeature}
-use Rattle.topo_model.specs.Outcome.{the_feature}
-use Rattle.topo_model.specs.Tables.{drawn}
+use Rattle.drawing.specs.Outcome.{the_feature}
+use Rattle.drawing.specs.Tables.{drawn}
 use Rattle.topogeom_points.specs.Rows.{rows_come}
 use Rattle.topogeom_points.proofs.FeatureComes.{feature_comes}
 use Rattle.topogeom_points.proofs.creating.with_feature.Goals as goal

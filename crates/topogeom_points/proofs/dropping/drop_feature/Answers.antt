@@ -2,11 +2,11 @@ use Rattle.std.proofs.Common.{◌≡◌, List, false, refl, sym, ap, subst, ◌�
 use Rattle.std.specs.List.{list_any}
 use Rattle.topo_base.specs.declared.rows.FeatureRow.{FeatureRow}
 use Rattle.topo_base.specs.declared.rows.RelationRow.{RelationRow}
-use Rattle.topo_model.specs.Drawing.{feature_at, feature_id_of}
-use Rattle.topo_model.specs.Edits.{drop_feature}
-use Rattle.topo_model.specs.Outcome.{Outcome}
-use Rattle.topo_model.specs.Relations.{lists_feature}
-use Rattle.topo_model.specs.Tables.{Tables, drawn}
+use Rattle.drawing.specs.Drawing.{feature_at, feature_id_of}
+use Rattle.drawing.specs.Edits.{drop_feature}
+use Rattle.drawing.specs.Outcome.{Outcome}
+use Rattle.drawing.specs.Relations.{lists_feature}
+use Rattle.drawing.specs.Tables.{Tables, drawn}
 use Rattle.layer_tree.specs.Answers.{Follows}
 use Rattle.layer_tree.proofs.Found.{found_row, own_there}
 use Rattle.topogeom_points.proofs.FeatureGoes.{goes_where}

@@ -2,7 +2,7 @@ use Rattle.std.proofs.Common.{List, [], ◌∷◌, ◌++◌, ap, ◌∙◌}
 use Rattle.topo_base.specs.declared.rows.RelationRow.{RelationRow}
 use Rattle.topo_base.specs.declared.write.RowId.TheVariants.{Old}
 use Rattle.topo_base.specs.declared.write.RowWrite.TheVariants.{DropFeature}
-use Rattle.topo_model.specs.Tables.{drawn}
+use Rattle.drawing.specs.Tables.{drawn}
 use Rattle.topogeom_points.specs.Rows.{rows_go}
 use Rattle.topogeom_points.proofs.FeatureGoes.{feature_goes}
 use Rattle.topogeom_points.proofs.dropping.going.Goals as goal

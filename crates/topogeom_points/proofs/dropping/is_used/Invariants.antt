@@ -1,7 +1,7 @@
 use Rattle.std.proofs.Common.{◌≡◌, drop}
 use Rattle.std.specs.List.{list_any}
-use Rattle.topo_model.specs.Relations.{lists_feature}
-use Rattle.topo_model.specs.Tables.{drawn}
+use Rattle.drawing.specs.Relations.{lists_feature}
+use Rattle.drawing.specs.Tables.{drawn}
 use Rattle.topogeom_points.proofs.dropping.is_used.Given as goal
 
 -- none of the rows before this one lists the feature

@@ -1,6 +1,6 @@
 use Rattle.std.proofs.Common.{ap}
-use Rattle.topo_model.specs.Drawing.{feature_id_of, layer_id_of}
-use Rattle.topo_model.specs.Tables.{Tables}
+use Rattle.drawing.specs.Drawing.{feature_id_of, layer_id_of}
+use Rattle.drawing.specs.Tables.{Tables}
 use Rattle.layer_tree.proofs.Found.{found_row, own_there}
 use Rattle.topogeom_points.proofs.listing.add_element.Goals as goal
 

@@ -1,6 +1,6 @@
 use Rattle.std.proofs.Common.{◌≡◌, drop}
 use Rattle.std.specs.List.{list_any}
-use Rattle.topo_model.specs.Relations.{same_row}
+use Rattle.drawing.specs.Relations.{same_row}
 use Rattle.topogeom_points.proofs.listing.is_row_among.Given as goal
 
 -- none of the rows before this one is it

@@ -1,8 +1,8 @@
 use Rattle.std.proofs.Common.{◌≡◌, ◌+◌, take, drop, get_or, sym, ◌∙◌}
 use Rattle.std.proofs.lemmas.List.{get_or_default}
 use Rattle.topo_base.specs.declared.edit.Pair.{Pair}
-use Rattle.topo_model.specs.Layers.{elements_rule}
-use Rattle.topo_model.specs.Tables.{drawn}
+use Rattle.drawing.specs.Layers.{elements_rule}
+use Rattle.drawing.specs.Tables.{drawn}
 use Rattle.topogeom_points.proofs.Elements.{next_rule, none_goes, some_stays}
 use Rattle.topogeom_points.proofs.pairs.elements_rule.Goals as goal
 

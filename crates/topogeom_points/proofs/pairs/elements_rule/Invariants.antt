@@ -1,6 +1,6 @@
 use Rattle.std.proofs.Common.{◌≡◌, [], take, drop}
-use Rattle.topo_model.specs.Layers.{elements_rule}
-use Rattle.topo_model.specs.Tables.{drawn}
+use Rattle.drawing.specs.Layers.{elements_rule}
+use Rattle.drawing.specs.Tables.{drawn}
 use Rattle.topogeom_points.proofs.pairs.elements_rule.Given as goal
 
 -- no rule refuses one of the elements before this place

@@ -1,5 +1,5 @@
 use Rattle.std.proofs.Common.{◌∙◌}
-use Rattle.topo_model.specs.Writes.{edge_row_id}
+use Rattle.drawing.specs.Writes.{edge_row_id}
 use Rattle.topogeom_points.proofs.Elements.{has_edge_is, has_found}
 use Rattle.topogeom_points.proofs.pairs.has_edge.Goals as goal
 

@@ -1,5 +1,5 @@
 use Rattle.std.proofs.Common.{◌∙◌}
-use Rattle.topo_model.specs.Drawing.{node_id_of}
+use Rattle.drawing.specs.Drawing.{node_id_of}
 use Rattle.topogeom_points.proofs.Elements.{has_found}
 use Rattle.topogeom_points.proofs.pairs.has_node.Goals as goal
 

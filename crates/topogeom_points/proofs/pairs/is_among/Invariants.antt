@@ -1,6 +1,6 @@
 use Rattle.std.proofs.Common.{◌≡◌, drop}
 use Rattle.std.specs.List.{list_any}
-use Rattle.topo_model.specs.Layers.{same_pair}
+use Rattle.drawing.specs.Layers.{same_pair}
 use Rattle.topogeom_points.proofs.pairs.is_among.Given as goal
 
 -- none of the elements before this one is it

@@ -1,6 +1,6 @@
 use Rattle.std.proofs.Common.{◌≡◌, take}
 use Rattle.std.specs.Prelude.{flat_map}
-use Rattle.topo_model.specs.Places.{at_slot}
+use Rattle.drawing.specs.Places.{at_slot}
 use Rattle.face_rings.specs.RowBorder.{row_border}
 use Rattle.face_rings.proofs.content.FaceContent.of_rows.Given as goal
 

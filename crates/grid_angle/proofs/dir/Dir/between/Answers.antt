@@ -4,9 +4,9 @@ use Rattle.std.proofs.lemmas.Int.{to_z-of_z}
 use Rattle.std.proofs.lemmas.Bool.{both_ways, false_from_ne_true}
 use Rattle.topo_base.specs.Point.{Point}
 use Rattle.topo_base.specs.Within.{IsWithin}
-use Rattle.topo_model.proofs.Ring.{signed}
-use Rattle.topo_model.proofs.Signs.{order}
-use Rattle.topo_model.specs.Direction.{Direction, direction_to, IsGridDirection, IsNotZero}
+use Rattle.plane.proofs.Ring.{signed}
+use Rattle.plane.proofs.Signs.{order}
+use Rattle.plane.specs.Direction.{Direction, direction_to, IsGridDirection, IsNotZero}
 use Rattle.grid_angle.proofs.dir.Dir.between.Goals as goal
 
 zero_or_not : (u : Direction) → (P : Type 0) → (u.dx ≡ pos 0 → u.dy ≡ pos 0 → P) → (IsNotZero u → P) → P

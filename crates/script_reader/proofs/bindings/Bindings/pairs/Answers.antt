@@ -1,5 +1,5 @@
 use Rattle.std.proofs.Common.{◌∙◌, ap, sym, Some, rules}
-use Rattle.topo_model.specs.Bindings.{pairs_of}
+use Rattle.script_model.specs.Bindings.{pairs_of}
 use Rattle.script_reader.specs.Bindings.{names_of}
 use Rattle.script_reader.proofs.Pairing.{pairs_of-take_more, pairs_of-unbound}
 use Rattle.script_reader.proofs.bindings.Bindings.pairs.Goals as goal

@@ -1,5 +1,5 @@
 use Rattle.std.proofs.Common.{◌≡◌, length, take, Some}
-use Rattle.topo_model.specs.Bindings.{pairs_of}
+use Rattle.script_model.specs.Bindings.{pairs_of}
 use Rattle.script_reader.specs.Bindings.{names_of}
 use Rattle.script_reader.proofs.bindings.Bindings.pairs.Given as goal
 

@@ -1,7 +1,7 @@
 use Rattle.std.proofs.Common.{◌≡◌, ℕ, List, length, ◌++◌, ◌∷◌, [], subst, ap, ◌∙◌, OnOk}
 use Rattle.std.specs.Prelude.{codes}
 use Rattle.std.specs.Fmt.{decimal}
-use Rattle.topo_model.specs.Words.{spaced, dart_word, line_words}
+use Rattle.script_model.specs.Words.{spaced, dart_word, line_words}
 use Rattle.table_print.proofs.RowLines.{line_of-four}
 use Rattle.table_print.proofs.rows.EdgeRowRowLine.push_to.Goals as goal
 

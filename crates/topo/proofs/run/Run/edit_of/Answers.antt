@@ -1,7 +1,7 @@
 use Rattle.std.proofs.Common.{◌≡◌, Some, ap, sym, ◌∙◌}
 use Rattle.script_reader.specs.Bindings.{names_of}
-use Rattle.topo_model.specs.Bindings.{resolve}
-use Rattle.topo_model.proofs.NamedEdits.{resolve_numbers}
+use Rattle.script_model.specs.Bindings.{resolve}
+use Rattle.script_model.proofs.NamedEdits.{resolve_numbers}
 use Rattle.topo.proofs.run.Run.edit_of.Goals as goal
 
 pub returns-in_ok-copy_of-in-Plain : goal.returns-in_ok-copy_of-in-Plain

@@ -1,7 +1,7 @@
 use Rattle.std.proofs.Common.{◌≡◌, ◌<◌, ◌≤◌, ◌+◌, ℕ, List, Bool, Result, Ok, Err, IsTrue, length, ap, sym, subst, ◌∙◌, arith}
 use Rattle.std.specs.List.{list_all}
 use Rattle.topo_base.specs.ScriptLines.{ScriptLine}
-use Rattle.topo_model.specs.NamedRange.{is_script_line}
+use Rattle.script_model.specs.NamedRange.{is_script_line}
 use Rattle.topo.specs.declared.run.Stop.{Stop}
 use Rattle.topo.specs.declared.run.Stop.TheVariants.{NoMemory}
 use Rattle.topo.specs.Views.{SinkView}

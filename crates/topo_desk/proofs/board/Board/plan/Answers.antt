@@ -1,5 +1,5 @@
 use Rattle.std.proofs.Common.{ap, sym, subst, ◌∙◌}
-use Rattle.topo_model.specs.Tables.{tables_of}
+use Rattle.drawing.specs.Tables.{tables_of}
 use Rattle.topo_desk.specs.Boarded.{Boarded, bounds_of}
 use Rattle.edit_plan.specs.Ready.{IsReady}
 use Rattle.topo_desk.proofs.Entering.{legal_ready}

@@ -1,7 +1,7 @@
 use Rattle.std.proofs.Common.{true, List, subst}
 use Rattle.topo_base.specs.declared.edit.Entry.{Entry}
 use Rattle.entry_codec.proofs.EditLaws.{entries_read}
-use Rattle.topo_model.specs.Answers.{Bounds}
+use Rattle.history_model.specs.Answers.{Bounds}
 use Rattle.topo_disk.specs.Disk.{LeavesOnly}
 use Rattle.topo_journal.specs.Kept.{AreBytes}
 use Rattle.topo_desk.specs.Left.{StandsOrDoubts}

@@ -1,6 +1,6 @@
 use Rattle.std.proofs.Common.{◌≡◌, ◌⊎◌, ◌<◌, ◌+◌, ◌^◌, [], List, ℕ, Bool, true, length, arith, ap, sym, subst, ◌∙◌}
 use Rattle.std.proofs.lemmas.Bool.{false≢true}
-use Rattle.topo_model.specs.Legal.{journal_length}
+use Rattle.history_model.specs.Legal.{journal_length}
 use Rattle.topo_journal.specs.Kept.{IsFrame, body_in, history, doubted}
 use Rattle.topo_journal.specs.Entries.{spellings}
 use Rattle.topo_journal.proofs.Reading.{always_follow}

@@ -1,5 +1,5 @@
 use Rattle.std.proofs.Common.{◌≡◌, ap, arith}
-use Rattle.topo_model.specs.Places.{rows_of}
+use Rattle.drawing.specs.Places.{rows_of}
 use Rattle.topo_tables.specs.Placed.{Placed}
 use Rattle.topo_tables.proofs.PlaceLemmas.{stands_in, stands_within, stands_at, changed_placed, changed_rows}
 use Rattle.topo_tables.proofs.places.Places.change.Goals as goal

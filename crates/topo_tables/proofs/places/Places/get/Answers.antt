@@ -1,6 +1,6 @@
 use Rattle.std.proofs.Common.{◌∙◌, ◌-◌, List, Option, ap, sym, arith}
-use Rattle.topo_model.specs.Places.{at_place}
-use Rattle.topo_model.proofs.RowLemmas.{row_at-none, row_at-some}
+use Rattle.drawing.specs.Places.{at_place}
+use Rattle.drawing.proofs.RowLemmas.{row_at-none, row_at-some}
 use Rattle.topo_tables.proofs.places.Places.get.Goals as goal
 
 pub returns-then-id-eq0 : goal.returns-then-id-eq0

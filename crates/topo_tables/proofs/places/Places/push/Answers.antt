@@ -1,5 +1,5 @@
 use Rattle.std.proofs.Common.{ap}
-use Rattle.topo_model.proofs.RowLemmas.{rows_of-append}
+use Rattle.drawing.proofs.RowLemmas.{rows_of-append}
 use Rattle.topo_tables.specs.Placed.{Placed}
 use Rattle.topo_tables.proofs.PlaceLemmas.{pushed_items, pushed_placed}
 use Rattle.topo_tables.proofs.places.Places.push.Goals as goal

@@ -1,11 +1,11 @@
 use Rattle.std.proofs.Common.{◌≡◌, ℕ, ◌==◌, ◌||◌, List, ◌∷◌, map, sym, ap, ◌∙◌, ne_eqb}
 use Rattle.std.specs.List.{list_any}
 use Rattle.topo_base.specs.declared.rows.FaceRow.{FaceRow}
-use Rattle.topo_model.specs.Drawing.{has_face}
-use Rattle.topo_model.specs.Rows.{has_row}
-use Rattle.topo_model.specs.Tables.{universal_face, drawn}
-use Rattle.topo_model.specs.Writes.{face_row_id}
-use Rattle.topo_model.proofs.TableLemmas.{list_any-map}
+use Rattle.drawing.specs.Drawing.{has_face}
+use Rattle.drawing.specs.Rows.{has_row}
+use Rattle.drawing.specs.Tables.{universal_face, drawn}
+use Rattle.drawing.specs.Writes.{face_row_id}
+use Rattle.drawing.proofs.TableLemmas.{list_any-map}
 use Rattle.topo_tables.specs.Room.{Held}
 use Rattle.topo_tables.proofs.tables.Tables.has_face.Goals as goal
 

@@ -1,0 +1,11 @@
+pub mod RowLemmas
+pub mod Keeping
+pub mod Ordering
+pub mod TableLemmas
+pub mod Members
+pub mod BlockedTests
+pub mod PlainParts
+pub mod PlainChanges
+pub mod PlainSplits
+pub mod WritesInOrder
+pub mod Replaying

@@ -1,0 +1,4 @@
+pub mod Running
+pub mod CoreRunning
+pub mod Fronts
+pub mod Spellings

@@ -1,0 +1,14 @@
+pub mod Orientation
+pub mod Segment
+pub mod Line
+pub mod Direction
+pub mod RationalTests
+pub mod Relation
+pub mod LinePoints
+pub mod DirectionLaw
+pub mod Wedge
+pub mod ParityLaw
+pub mod ClosedWalk
+pub mod Crossings
+pub mod Parity
+pub mod SimpleLine

@@ -1,0 +1,12 @@
+pub mod NamedEdits
+pub mod Pieces
+pub mod Lines
+pub mod WordsUnique
+pub mod IdWords
+pub mod NameWords
+pub mod NamedUnique
+pub mod ScriptsUnique
+pub mod LinesApart
+pub mod EditWords
+pub mod EditsReading
+pub mod Scripts

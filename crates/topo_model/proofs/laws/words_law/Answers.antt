@@ -1,5 +1,0 @@
-use Rattle.topo_model.proofs.EditsReading.{edits_read_back}
-use Rattle.topo_model.proofs.laws.words_law.Goals as goal
-
-pub returns : goal.returns
-returns c = edits_read_back
