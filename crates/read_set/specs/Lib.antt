@@ -3,3 +3,4 @@ pub mod Planned
 pub mod Answered
 pub mod Drafted
 pub mod Edited
+pub mod Ready
