@@ -93,12 +93,15 @@ move_node S None p there = tt
 move_node S (Some n) p there =
     refuses true S (not (is_isolated S n.node_id)) NotIsolated _ (λ lone.
     refuses true S (is_blocked_for S n.node_id p) PointBlocked _ (λ free.
-    refuses true S (not (option_eq nat_eq n.containing_face (Some (face_at S p)))) NotInFace _ (λ lies. (record {
-      there = there n refl;
-      lone = passed _ lone;
-      free = free;
-      lies = same_face n.containing_face (face_at S p) (passed _ lies);
-    }, λ _. refl))))
+    refuses true S (not (option_eq nat_eq n.containing_face (Some (face_at S p)))) NotInFace _ (λ lies. (
+      record {
+        there = there n refl;
+        lone = passed _ lone;
+        free = free;
+        lies = same_face n.containing_face (face_at S p) (passed _ lies);
+      },
+      λ _. refl,
+    ))))
 
 remove_node : (S : Drawing) (n : Option NodeRow) → Found S.nodes n → Grounded true S (node_goes S n)
 remove_node S None there = tt
@@ -117,19 +120,21 @@ lone_edge S (Some a) (Some b) line ca cb =
     refuses (is_line_short line) S (not (goes_between a b line)) LineEnds _ (λ ends.
     refuses (is_line_short line) S (not (is_simple line)) LineNotSimple _ (λ simple.
     refuses (is_line_short line) S (is_line_blocked S line) LineBlocked _ (λ free.
-    let both = and_parts (is_isolated S a.node_id) (is_isolated S b.node_id) (passed _ lone) in
-    (record {
-      edge = record {
-        start_there = ca a refl;
-        end_there = cb b refl;
-        ends = passed _ ends;
-        simple = passed _ simple;
-        free = free;
-        starts_in = lone_face S a (first_direction line) both.0;
-        ends_in = lone_face S b (first_direction (reverse line)) both.1 ∙ contained a.containing_face b.containing_face (passed _ same);
-      };
-      joined = lone_joined S a b line (unwrap_or a.containing_face 0) differ both.1;
-    }, λ short. short)))))))
+    let both = and_parts (is_isolated S a.node_id) (is_isolated S b.node_id) (passed _ lone) in (
+      record {
+        edge = record {
+          start_there = ca a refl;
+          end_there = cb b refl;
+          ends = passed _ ends;
+          simple = passed _ simple;
+          free = free;
+          starts_in = lone_face S a (first_direction line) both.0;
+          ends_in = lone_face S b (first_direction (reverse line)) both.1 ∙ contained a.containing_face b.containing_face (passed _ same);
+        };
+        joined = lone_joined S a b line (unwrap_or a.containing_face 0) differ both.1;
+      },
+      λ short. short,
+    )))))))
   where
     contained : (o p : Option ℕ) → option_eq nat_eq o p ≡ true → unwrap_or p 0 ≡ unwrap_or o 0
     contained None None e = refl
@@ -241,10 +246,13 @@ heals anew S (Some e) (Some f) ce cf =
 layer_over : (S : Drawing) (name : List ℕ) (kind : Kind) (l : Option LayerRow) → is_name_taken S name ≡ false → Found S.layers l → Grounded true S (layer_comes_on name kind l)
 layer_over S name kind None unnamed there = tt
 layer_over S name kind (Some l) unnamed there =
-    refuses true S (not (same_kind l.feature_type kind)) WrongKind _ (λ same. (record {
-      unnamed = unnamed;
-      stands = record { row = l; there = there l refl; id = refl; kind_is = passed _ same; level_is = refl };
-    }, λ _. refl))
+    refuses true S (not (same_kind l.feature_type kind)) WrongKind _ (λ same. (
+      record {
+        unnamed = unnamed;
+        stands = record { row = l; there = there l refl; id = refl; kind_is = passed _ same; level_is = refl };
+      },
+      λ _. refl,
+    ))
 
 layer : (S : Drawing) (name : List ℕ) (kind : Kind) (child : Option ℕ) → Grounded true S (layer_comes S name kind child)
 layer S name kind None = refuses true S (is_name_taken S name) NameTaken _ (λ unnamed. (record { unnamed = unnamed; stands = refl }, λ _. refl))
@@ -263,17 +271,20 @@ element_on S t None x is there = tt
 element_on S t (Some l) x is there =
     let r = contains-found (λ (row : LayerRow). layer_id_of row == t.layer_id) l S.layers is in
     unless_none true S (element_rule S l x) _ (λ allowed.
-    refuses true S (is_element_listed S (row_for t.feature_id l.layer_id x)) ElementListed _ (λ unlisted. (record {
-      feature = t;
-      layer = l;
-      element = x;
-      feature_there = there;
-      layer_there = r.0;
-      layer_is = eqb-true l.layer_id t.layer_id r.1;
-      row_is = refl;
-      allowed = allowed;
-      unlisted = unlisted;
-    }, λ _. refl)))
+    refuses true S (is_element_listed S (row_for t.feature_id l.layer_id x)) ElementListed _ (λ unlisted. (
+      record {
+        feature = t;
+        layer = l;
+        element = x;
+        feature_there = there;
+        layer_there = r.0;
+        layer_is = eqb-true l.layer_id t.layer_id r.1;
+        row_is = refl;
+        allowed = allowed;
+        unlisted = unlisted;
+      },
+      λ _. refl,
+    )))
 
 element : (S : Drawing) (t : Option FeatureRow) (x : Pair) → Found S.features t → Grounded true S (feature_lists S t x)
 element S None x there = tt
@@ -282,13 +293,16 @@ element S (Some t) x there = element_on S t (layer_at S t.layer_id) x refl (ther
 less : (S : Drawing) (t : Option FeatureRow) (x : Pair) → Found S.features t → Grounded true S (feature_unlists S t x)
 less S None x there = tt
 less S (Some t) x there =
-    refuses true S (not (is_element_listed S (row_for t.feature_id t.layer_id x))) ElementNotListed _ (λ listed. (record {
-      feature = t;
-      element = x;
-      feature_there = there t refl;
-      row_is = refl;
-      listed = passed _ listed;
-    }, λ _. refl))
+    refuses true S (not (is_element_listed S (row_for t.feature_id t.layer_id x))) ElementNotListed _ (λ listed. (
+      record {
+        feature = t;
+        element = x;
+        feature_there = there t refl;
+        row_is = refl;
+        listed = passed _ listed;
+      },
+      λ _. refl,
+    ))
 
 gone_feature : (S : Drawing) (t : Option FeatureRow) → Found S.features t → Grounded true S (feature_goes S t)
 gone_feature S None there = tt

@@ -7,14 +7,15 @@ use Rattle.topo_base.specs.declared.element.Element.{Element}
 use Rattle.topo_base.specs.declared.write.RowWrite.{RowWrite}
 use Rattle.drawing.specs.Drawing.{Drawing}
 use Rattle.read_set.specs.Plans.{IsPlanFor}
-use Rattle.iso_edits.specs.declared.draft.Draft.{Draft}
-use Rattle.iso_edits.specs.declared.draft.DraftEnd.{DraftEnd}
-use Rattle.iso_edits.specs.declared.draft.DraftEnd.TheVariants.{Refused, Memory}
-use Rattle.iso_edits.specs.Drafts.{AnswersEdit}
+use Rattle.drawing.specs.Step.{step}
+use Rattle.read_set.specs.declared.edited.Edited.{Edited}
+use Rattle.read_set.specs.declared.end.EditEnd.{EditEnd}
+use Rattle.read_set.specs.declared.end.EditEnd.TheVariants.{Refused, Memory}
+use Rattle.read_set.specs.Edited.{AnswersOutcome}
 
--- a draft of these writes and ids, or want of memory, answers an edit for which they are right
-pub answers_with : (S : Drawing) (e : Edit) (ws : List RowWrite) (ids : List Element) (r : Result Draft DraftEnd) → IsPlanFor S e ws ids
-    → IfOk r (λ (d : Draft). d.writes ≡ ws) → IfOk r (λ (d : Draft). d.ids ≡ ids) → IfErr r (λ (end : DraftEnd). end ≡ Memory) → AnswersEdit S e r
+-- these writes and ids, or want of memory, answers an edit for which they are right
+pub answers_with : (S : Drawing) (e : Edit) (ws : List RowWrite) (ids : List Element) (r : Result Edited EditEnd) → IsPlanFor S e ws ids
+    → IfOk r (λ (d : Edited). d.writes ≡ ws) → IfOk r (λ (d : Edited). d.ids ≡ ids) → IfErr r (λ (end : EditEnd). end ≡ Memory) → AnswersOutcome S (step S e) r
 answers_with S e ws ids (Ok d) plan w i m = subst (λ (us : List RowWrite). IsPlanFor S e us d.ids) (sym w) (subst (λ (xs : List Element). IsPlanFor S e ws xs) (sym i) plan)
 answers_with S e ws ids (Err (Refused rule)) plan w i m = absurd cc
 answers_with S e ws ids (Err Memory) plan w i m = subst IsOk (sym plan.accepted) refl

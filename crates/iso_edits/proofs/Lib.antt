@@ -1,9 +1,6 @@
 pub mod Answering
 pub mod KnownFaces
-pub mod KnownFacesStay
-pub mod Kept
 pub mod IsolatedNodes
 pub mod IsolatedLinks
 pub mod IsolatedEdges
 pub mod Locating
-pub mod FacesWritten

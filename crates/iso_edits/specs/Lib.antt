@@ -1,4 +1,2 @@
-pub mod Ready
-pub mod Drafts
 pub mod Work
 pub mod Location

@@ -4,18 +4,21 @@ ghost use Rattle.std.specs.List.{list_all, sum_by};
 ghost use Rattle.topo_base.specs.declared.edit.Edit.{Edit};
 ghost use Rattle.drawing.specs.Tables.{drawn, face_box};
 ghost use Rattle.face_boxes.specs.Bounds.{box_with, without};
-ghost use Rattle.iso_edits.specs.Drafts.{AnswersEdit};
-ghost use Rattle.iso_edits.specs.Ready.{IsReady};
+ghost use Rattle.drawing.specs.PlainInOrder.{IsPlainInOrder};
+ghost use Rattle.drawing.specs.Step.{step};
+ghost use Rattle.read_set.specs.Edited.{AnswersOutcome};
+ghost use Rattle.read_set.specs.Ready.{IsReady};
 ghost use Rattle.edit_conditions.specs.Counted.{point_steps};
 ghost use Rattle.iso_edits.specs.Work.{most_steps};
 
-use crate::draft::{Bounded, Draft, DraftEnd, coming_edge, going_edge};
+use crate::writing::{Bounded, coming_edge, going_edge};
 use edit_conditions::{
     goes_between, is_in_feature, is_isolated, is_isolated_edge, is_line_blocked, is_same_face,
     is_same_node,
 };
 use face_boxes::{box_with_new, box_without};
 use grid_lines::is_simple;
+use read_set::{EditEnd, Edited};
 use std::alloc::Global;
 use std::sync::ledger::Ledger;
 use topo_base::{EdgeId, FaceId, Line, NodeId, NodeRow, Rule, Steps};
@@ -79,37 +82,38 @@ pub fn add_iso_edge<L: Ledger>(
     end: NodeId,
     line: &Line,
     steps: &mut Steps<L>,
-) -> Result<Draft, DraftEnd>
-    requires { IsReady (drawn tables.now.rows) }
-    ensures answer { AnswersEdit (drawn tables.now.rows) (Edit.AddIsoEdge start end line.now) result }
+) -> Result<Edited, EditEnd>
+    requires ready { IsReady (drawn tables.now.rows) }
+    requires plain { IsPlainInOrder (drawn tables.now.rows) }
+    ensures answer { AnswersOutcome (drawn tables.now.rows) (step (drawn tables.now.rows) (Edit.AddIsoEdge start end line.now)) result }
     ensures counted { steps.new ≤ steps.old + most_steps tables.now.rows (Edit.AddIsoEdge start end line.now) }
 {
     let Some(first) = tables.node(start, steps) else {
-        return Err(DraftEnd::Refused(Rule::NoNode));
+        return Err(EditEnd::Refused(Rule::NoNode));
     };
     let Some(last) = tables.node(end, steps) else {
-        return Err(DraftEnd::Refused(Rule::NoNode));
+        return Err(EditEnd::Refused(Rule::NoNode));
     };
     if is_same_node(first.node_id, last.node_id) {
-        return Err(DraftEnd::Refused(Rule::SameNode));
+        return Err(EditEnd::Refused(Rule::SameNode));
     }
     if !is_isolated(tables, first.node_id, steps) {
-        return Err(DraftEnd::Refused(Rule::NotIsolated));
+        return Err(EditEnd::Refused(Rule::NotIsolated));
     }
     if !is_isolated(tables, last.node_id, steps) {
-        return Err(DraftEnd::Refused(Rule::NotIsolated));
+        return Err(EditEnd::Refused(Rule::NotIsolated));
     }
     if !is_same_face(first.containing_face, last.containing_face) {
-        return Err(DraftEnd::Refused(Rule::NotInFace));
+        return Err(EditEnd::Refused(Rule::NotInFace));
     }
     if !goes_between(first, last, line) {
-        return Err(DraftEnd::Refused(Rule::LineEnds));
+        return Err(EditEnd::Refused(Rule::LineEnds));
     }
     if !is_simple(line, steps) {
-        return Err(DraftEnd::Refused(Rule::LineNotSimple));
+        return Err(EditEnd::Refused(Rule::LineNotSimple));
     }
     if is_line_blocked(tables, line, steps) {
-        return Err(DraftEnd::Refused(Rule::LineBlocked));
+        return Err(EditEnd::Refused(Rule::LineBlocked));
     }
     let edge = tables.counters().edge;
     let beside = beside_new(tables, first, EdgeId(edge), line, steps);
@@ -123,20 +127,21 @@ pub fn remove_iso_edge<L: Ledger>(
     tables: &Tables,
     edge: EdgeId,
     steps: &mut Steps<L>,
-) -> Result<Draft, DraftEnd>
-    requires { IsReady (drawn tables.now.rows) }
-    ensures answer { AnswersEdit (drawn tables.now.rows) (Edit.RemoveIsoEdge edge) result }
+) -> Result<Edited, EditEnd>
+    requires ready { IsReady (drawn tables.now.rows) }
+    requires plain { IsPlainInOrder (drawn tables.now.rows) }
+    ensures answer { AnswersOutcome (drawn tables.now.rows) (step (drawn tables.now.rows) (Edit.RemoveIsoEdge edge)) result }
     ensures counted { steps.new ≤ steps.old + most_steps tables.now.rows (Edit.RemoveIsoEdge edge) }
 {
     let Some(row) = tables.edge(edge, steps) else {
-        return Err(DraftEnd::Refused(Rule::NoEdge));
+        return Err(EditEnd::Refused(Rule::NoEdge));
     };
     if !is_isolated_edge(tables, row, steps) {
-        return Err(DraftEnd::Refused(Rule::NotIsolated));
+        return Err(EditEnd::Refused(Rule::NotIsolated));
     }
     let edge = row.edge_id;
     if is_in_feature(tables, EDGE_TYPE, edge.0, steps) {
-        return Err(DraftEnd::Refused(Rule::EdgeInFeature));
+        return Err(EditEnd::Refused(Rule::EdgeInFeature));
     }
     let left = beside_gone(tables, row.left_face, edge, steps);
     let right = beside_gone(tables, row.right_face, edge, steps);

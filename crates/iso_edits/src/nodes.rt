@@ -3,16 +3,19 @@ ghost use Rattle.std.specs.Prelude.{◌≡◌, ◌+◌, ◌≤◌, Some, IfOk, I
 ghost use Rattle.std.specs.List.{list_all};
 ghost use Rattle.topo_base.specs.declared.edit.Edit.{Edit};
 ghost use Rattle.drawing.specs.Tables.{drawn};
-ghost use Rattle.iso_edits.specs.Drafts.{AnswersEdit};
-ghost use Rattle.iso_edits.specs.Ready.{IsReady};
+ghost use Rattle.drawing.specs.PlainInOrder.{IsPlainInOrder};
+ghost use Rattle.drawing.specs.Step.{step};
+ghost use Rattle.read_set.specs.Edited.{AnswersOutcome};
+ghost use Rattle.read_set.specs.Ready.{IsReady};
 ghost use Rattle.iso_edits.specs.Work.{most_steps};
 
-use crate::draft::{Draft, DraftEnd, draft_of};
 use crate::location::face_at;
+use crate::writing::edited_by;
 use edit_conditions::{
     accepts_face, is_blocked, is_blocked_for, is_given_face, is_in_feature, is_isolated,
     is_same_face,
 };
+use read_set::{EditEnd, Edited};
 use std::alloc::Global;
 use std::sync::ledger::Ledger;
 use topo_base::{Element, FaceId, Grid, NodeId, RowId, RowWrite, Rule, Steps};
@@ -40,24 +43,25 @@ pub fn add_iso_node<L: Ledger>(
     face: Option<FaceId>,
     geom: Grid,
     steps: &mut Steps<L>,
-) -> Result<Draft, DraftEnd>
-    requires { IsReady (drawn tables.now.rows) }
-    ensures answer { AnswersEdit (drawn tables.now.rows) (Edit.AddIsoNode face geom) result }
+) -> Result<Edited, EditEnd>
+    requires ready { IsReady (drawn tables.now.rows) }
+    requires plain { IsPlainInOrder (drawn tables.now.rows) }
+    ensures answer { AnswersOutcome (drawn tables.now.rows) (step (drawn tables.now.rows) (Edit.AddIsoNode face geom)) result }
     ensures counted { steps.new ≤ steps.old + most_steps tables.now.rows (Edit.AddIsoNode face geom) }
 {
     if !accepts_face(tables, face) {
-        return Err(DraftEnd::Refused(Rule::NoFace));
+        return Err(EditEnd::Refused(Rule::NoFace));
     }
     if is_blocked(tables, geom, steps) {
-        return Err(DraftEnd::Refused(Rule::PointBlocked));
+        return Err(EditEnd::Refused(Rule::PointBlocked));
     }
     let within = face_at(tables, geom, steps);
     if !is_given_face(within, &face) {
-        return Err(DraftEnd::Refused(Rule::NotInFace));
+        return Err(EditEnd::Refused(Rule::NotInFace));
     }
     let node = tables.counters().node;
     let one = add_node(node, within, geom);
-    draft_of(alloc, one, Element::Node(NodeId(node)))
+    edited_by(alloc, one, Element::Node(NodeId(node)))
 }
 
 /// An isolated node moves within its face, by the rules of ST_MoveIsoNode: NoNode, NotIsolated,
@@ -68,30 +72,31 @@ pub fn move_iso_node<L: Ledger>(
     node: NodeId,
     geom: Grid,
     steps: &mut Steps<L>,
-) -> Result<Draft, DraftEnd>
-    requires { IsReady (drawn tables.now.rows) }
-    ensures answer { AnswersEdit (drawn tables.now.rows) (Edit.MoveIsoNode node geom) result }
+) -> Result<Edited, EditEnd>
+    requires ready { IsReady (drawn tables.now.rows) }
+    requires plain { IsPlainInOrder (drawn tables.now.rows) }
+    ensures answer { AnswersOutcome (drawn tables.now.rows) (step (drawn tables.now.rows) (Edit.MoveIsoNode node geom)) result }
     ensures counted { steps.new ≤ steps.old + most_steps tables.now.rows (Edit.MoveIsoNode node geom) }
 {
     let Some(row) = tables.node(node, steps) else {
-        return Err(DraftEnd::Refused(Rule::NoNode));
+        return Err(EditEnd::Refused(Rule::NoNode));
     };
     let (node, face) = (row.node_id, row.containing_face);
     if !is_isolated(tables, node, steps) {
-        return Err(DraftEnd::Refused(Rule::NotIsolated));
+        return Err(EditEnd::Refused(Rule::NotIsolated));
     }
     if is_blocked_for(tables, node, geom, steps) {
-        return Err(DraftEnd::Refused(Rule::PointBlocked));
+        return Err(EditEnd::Refused(Rule::PointBlocked));
     }
     let within = face_at(tables, geom, steps);
     if !is_same_face(face, Some(within)) {
-        return Err(DraftEnd::Refused(Rule::NotInFace));
+        return Err(EditEnd::Refused(Rule::NotInFace));
     }
     let one = RowWrite::SetPoint {
         node: RowId::Old(node.0),
         geom,
     };
-    draft_of(alloc, one, Element::Node(node))
+    edited_by(alloc, one, Element::Node(node))
 }
 
 /// An isolated node goes, by the rules of ST_RemoveIsoNode: NoNode, NotIsolated; and NodeInFeature,
@@ -101,22 +106,22 @@ pub fn remove_iso_node<L: Ledger>(
     tables: &Tables,
     node: NodeId,
     steps: &mut Steps<L>,
-) -> Result<Draft, DraftEnd>
-    ensures answer { AnswersEdit (drawn tables.now.rows) (Edit.RemoveIsoNode node) result }
+) -> Result<Edited, EditEnd>
+    ensures answer { AnswersOutcome (drawn tables.now.rows) (step (drawn tables.now.rows) (Edit.RemoveIsoNode node)) result }
     ensures counted { steps.new ≤ steps.old + most_steps tables.now.rows (Edit.RemoveIsoNode node) }
 {
     let Some(row) = tables.node(node, steps) else {
-        return Err(DraftEnd::Refused(Rule::NoNode));
+        return Err(EditEnd::Refused(Rule::NoNode));
     };
     let node = row.node_id;
     if !is_isolated(tables, node, steps) {
-        return Err(DraftEnd::Refused(Rule::NotIsolated));
+        return Err(EditEnd::Refused(Rule::NotIsolated));
     }
     if is_in_feature(tables, NODE_TYPE, node.0, steps) {
-        return Err(DraftEnd::Refused(Rule::NodeInFeature));
+        return Err(EditEnd::Refused(Rule::NodeInFeature));
     }
     let one = RowWrite::DropNode {
         node: RowId::Old(node.0),
     };
-    draft_of(alloc, one, Element::Node(node))
+    edited_by(alloc, one, Element::Node(node))
 }

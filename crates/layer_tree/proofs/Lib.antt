@@ -1,5 +1,3 @@
-pub mod Levels
-pub mod Found
 pub mod Members
 pub mod Descents
 pub mod Listing

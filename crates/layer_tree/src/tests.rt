@@ -1,80 +1,20 @@
-//! A layer that comes, and a feature that lists features.
+//! A feature that lists features.
 
 ghost use Rattle.std.specs.Prelude.{◌≡◌, ◌<◌, ◌∷◌, ◌++◌, [], Some, None, OnOk};
 
-use crate::{elements_of, numbers_of, plan};
-use read_set::{Plan, PlanEnd};
+use crate::{elements_of, numbers_of};
 use std::alloc::Global;
 use std::marker::Brand;
 use std::process::Abort;
 use std::sync::ledger::{Blank, Ledger};
 use std::test::Fail;
-use topo_base::{
-    Edit, Element, FeatureId, Kind, LayerId, Memory, Name, NodeId, RowId, RowWrite, Rule, Steps,
-};
-use topo_tables::{Excerpt, Tables, Writes};
+use topo_base::{Element, FeatureId, Kind, Memory, Name, NodeId, RowId, RowWrite, Steps};
+use topo_tables::{Tables, Writes};
 
 fn name_of(rt: &impl Abort, alloc: Global, bytes: &[u8]) -> Result<Name, Fail> {
     Ok(Name::of(Vec::from_slice(alloc, bytes)?).expect(rt, "no name"))
 }
 
-/// Plans a layer of nodes on tables without rows, as that of editor 1.
-fn plan_on_nothing<L: Ledger>(
-    alloc: Global,
-    name: Name,
-    child: Option<LayerId>,
-    steps: &mut Steps<L>,
-) -> Result<Plan, PlanEnd> {
-    let tables = Tables::empty(alloc);
-    let edit = Edit::AddLayer {
-        name,
-        kind: Kind::Puntal,
-        child,
-    };
-    plan(alloc, Excerpt::of(tables, 7), edit, 1, steps)
-}
-
-fn layers_come<L: Ledger>(rt: &impl Abort, alloc: Global, blank: Blank) -> Result<(), Fail>
-    requires name { blank.name ≡ L.name }
-    requires parts { blank.parts ≡ L.parts }
-    requires some { 0 < blank.parts }
-{
-    let mut steps = Steps::<L>::new(blank);
-    let name = name_of(rt, alloc, b"stops".as_slice())?;
-    let first = plan_on_nothing(alloc, name, None, &mut steps)?;
-    assert_eq!(rt; first.writes_len(), 1);
-    assert!(rt; first.ids().as_slice() == [Element::Layer(LayerId(1))].as_slice());
-    Ok(())
-}
-
-#[test]
-fn a_layer_comes(rt: HostRuntime) -> Result<(), Fail> {
-    layers_come::<Brand>(&rt, rt.alloc(), Blank::new(1))
-}
-
-fn no_layer_to_stand_on<L: Ledger>(rt: &impl Abort, alloc: Global, blank: Blank) -> Result<(), Fail>
-    requires name { blank.name ≡ L.name }
-    requires parts { blank.parts ≡ L.parts }
-    requires some { 0 < blank.parts }
-{
-    let mut steps = Steps::<L>::new(blank);
-    let name = name_of(rt, alloc, b"lines".as_slice())?;
-    match plan_on_nothing(alloc, name, Some(LayerId(1)), &mut steps) {
-        Err(PlanEnd::Refused { rule, front }) => {
-            assert_eq!(rt; rule, Rule::NoLayer);
-            assert_eq!(rt; front, 7);
-            Ok(())
-        }
-        _ => panic!(rt; "planned"),
-    }
-}
-
-#[test]
-fn no_layer(rt: HostRuntime) -> Result<(), Fail> {
-    no_layer_to_stand_on::<Brand>(&rt, rt.alloc(), Blank::new(1))
-}
-
-/// A layer of nodes, and one upon it.
 fn push_layers(writes: &mut Writes, lower: Name, upper: Name) -> Result<(), Memory>
     ensures { OnOk result (writes.new ≡ writes.old ++ RowWrite.AddLayer (RowId.Old 1) 0 None Kind.Puntal lower
         ∷ RowWrite.AddLayer (RowId.Old 2) 1 (Some (RowId.Old 1)) Kind.Puntal upper ∷ []) }

@@ -16,8 +16,12 @@ pub record IsTried (S : Drawing) (done : Accepted) (d : Tried) : Type 0 where
   pub rows : d.draft.rows ≡ tables_of done.drawing
   pub ids : done.ids ≡ d.ids
 
--- writes and ids that are right for the outcome; the rule that refuses it; or want of memory, where it is accepted
+-- the writes and the ids are right for the outcome
+abbrev pub Follows : Drawing → Outcome → Edited → Type 0
+Follows S o d = AreWritesOf S o d.writes d.ids
+
+-- such writes and ids; the rule that refuses it; or want of memory, where it is accepted
 abbrev pub AnswersOutcome : Drawing → Outcome → Result Edited EditEnd → Type 0
-AnswersOutcome S o (Ok d) = AreWritesOf S o d.writes d.ids
+AnswersOutcome S o (Ok d) = Follows S o d
 AnswersOutcome S o (Err (Refused rule)) = o ≡ Err rule
 AnswersOutcome S o (Err Memory) = IsOk o

@@ -27,9 +27,9 @@ use Rattle.relation_rows.proofs.KnownFeatures.{known_row, references_parts}
 use Rattle.relation_rows.proofs.Order.{same_element, same_type}
 use Rattle.relation_rows.proofs.Putting.{AgreePairwise, AllAgree, adds, adds_puts, put_after, puts}
 use Rattle.relation_rows.proofs.Writing.{with_rows}
-use Rattle.layer_tree.specs.Answers.{Follows}
-use Rattle.layer_tree.specs.declared.edited.Edited.{Edited}
-use Rattle.topogeom_points.specs.Ready.{IsReady}
+use Rattle.read_set.specs.Edited.{Follows}
+use Rattle.read_set.specs.declared.edited.Edited.{Edited}
+use Rattle.read_set.specs.Ready.{IsReady}
 use Rattle.topogeom_points.specs.Rows.{row_write, rows_come}
 
 -- ---- the rows of a feature of one layer

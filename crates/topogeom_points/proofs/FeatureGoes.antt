@@ -19,9 +19,9 @@ use Rattle.relation_rows.proofs.KnownFeatures.{references_parts}
 use Rattle.relation_rows.proofs.Order.{same_itself, same_topogeo}
 use Rattle.relation_rows.proofs.Putting.{AllAfter, Ascend, ascend_of, without, drop_same, drop_other, drop_none}
 use Rattle.relation_rows.proofs.Writing.{with_rows}
-use Rattle.layer_tree.specs.Answers.{Follows}
-use Rattle.layer_tree.specs.declared.edited.Edited.{Edited}
-use Rattle.topogeom_points.specs.Ready.{IsReady}
+use Rattle.read_set.specs.Edited.{Follows}
+use Rattle.read_set.specs.declared.edited.Edited.{Edited}
+use Rattle.read_set.specs.Ready.{IsReady}
 use Rattle.topogeom_points.specs.Rows.{drop_write, feature_less, rows_go}
 
 -- none of these rows is of the feature

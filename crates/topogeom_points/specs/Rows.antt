@@ -1,5 +1,5 @@
 -- The row writes by which features list elements, and go.
-use Rattle.std.specs.Prelude.{ℕ, ◌==◌, not, List, [], ◌∷◌, map, filter, Ok}
+use Rattle.std.specs.Prelude.{ℕ, Bool, IsTrue, ◌==◌, not, List, [], ◌∷◌, map, filter, Option, Some, None, Ok}
 use Rattle.topo_base.specs.declared.edit.Pair.{Pair}
 use Rattle.topo_base.specs.declared.rows.RelationRow.{RelationRow}
 use Rattle.topo_base.specs.declared.write.RowId.TheVariants.{Old}
@@ -37,3 +37,8 @@ drop_write r = DropRow (Old r.topogeo_id) (Old r.layer_id) (Old r.element_id) r.
 
 abbrev pub rows_go : ℕ → List RelationRow → List RowWrite
 rows_go t rows = map drop_write (filter (λ (r : RelationRow). r.topogeo_id == t) rows)
+
+-- what a number names is there, if one is given
+abbrev pub IsThereIfGiven : (ℕ → Bool) → Option ℕ → Type 0
+IsThereIfGiven has None = Unit {0}
+IsThereIfGiven has (Some n) = IsTrue (has n)

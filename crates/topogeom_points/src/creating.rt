@@ -4,19 +4,18 @@ ghost use Rattle.drawing.specs.Drawing.{layer_at};
 ghost use Rattle.drawing.specs.Edits.{with_feature as feature_comes, create_topo_geom};
 ghost use Rattle.drawing.specs.Tables.{drawn};
 ghost use Rattle.drawing.specs.Writable.{has_layer_row};
-ghost use Rattle.layer_tree.specs.Answers.{AnswersOutcome, Follows};
-ghost use Rattle.topogeom_points.specs.Ready.{IsReady};
+ghost use Rattle.read_set.specs.Edited.{AnswersOutcome, Follows};
+ghost use Rattle.read_set.specs.Ready.{IsReady};
 ghost use Rattle.topogeom_points.specs.Rows.{rows_come as rows_of_pairs, row_write as write_of};
 
 use crate::pairs::elements_rule;
-use layer_tree::{Edited, one_id};
-use read_set::PlanEnd;
+use read_set::{EditEnd, Edited, one_id};
 use std::alloc::Global;
 use std::sync::ledger::Ledger;
 use topo_base::{
     Element, FeatureId, LayerId, LayerRow, Memory, Pair, RowId, RowWrite, Rule, Steps,
 };
-use topo_tables::{Excerpt, Tables, Writes};
+use topo_tables::{Tables, Writes};
 
 /// The write by which a feature lists an element.
 pub fn row_write(feature: u32, layer: LayerId, pair: &Pair) -> RowWrite
@@ -68,25 +67,20 @@ fn with_feature(
 /// NoEdge, NoFace, NoFeature, UniverseElement, ElementListed.
 pub fn create<L: Ledger>(
     alloc: Global,
-    excerpt: &Excerpt,
+    tables: &Tables,
     layer: LayerId,
     pairs: &[Pair],
     steps: &mut Steps<L>,
-) -> Result<Edited, PlanEnd>
-    requires ready { IsReady (drawn excerpt.now.rows) }
-    ensures { AnswersOutcome (drawn excerpt.now.rows) excerpt.now.front
-        (create_topo_geom (drawn excerpt.now.rows) (layer_at (drawn excerpt.now.rows) layer) pairs.now) result }
+) -> Result<Edited, EditEnd>
+    requires ready { IsReady (drawn tables.now.rows) }
+    ensures { AnswersOutcome (drawn tables.now.rows)
+        (create_topo_geom (drawn tables.now.rows) (layer_at (drawn tables.now.rows) layer) pairs.now) result }
 {
-    let front = excerpt.front();
-    let tables = excerpt.tables();
     let Some(row) = tables.layer(layer, steps) else {
-        return Err(PlanEnd::Refused {
-            rule: Rule::NoLayer,
-            front,
-        });
+        return Err(EditEnd::Refused(Rule::NoLayer));
     };
     match elements_rule(tables, row, pairs, steps) {
-        Some(rule) => Err(PlanEnd::Refused { rule, front }),
+        Some(rule) => Err(EditEnd::Refused(rule)),
         None => Ok(with_feature(alloc, tables, row, pairs)?),
     }
 }

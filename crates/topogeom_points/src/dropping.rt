@@ -7,17 +7,16 @@ ghost use Rattle.drawing.specs.Edits.{drop_feature as drops_feature};
 ghost use Rattle.drawing.specs.Relations.{lists_feature as is_lister};
 ghost use Rattle.drawing.specs.Tables.{drawn};
 ghost use Rattle.drawing.specs.Writable.{has_feature_row};
-ghost use Rattle.layer_tree.specs.Answers.{AnswersOutcome, Follows};
-ghost use Rattle.topogeom_points.specs.Ready.{IsReady};
+ghost use Rattle.read_set.specs.Edited.{AnswersOutcome, Follows};
+ghost use Rattle.read_set.specs.Ready.{IsReady};
 ghost use Rattle.topogeom_points.specs.Rows.{drop_write as write_of, feature_less, rows_go};
 
-use layer_tree::{Edited, one_id};
-use read_set::PlanEnd;
+use read_set::{EditEnd, Edited, one_id};
 use relation_rows::is_hierarchical;
 use std::alloc::Global;
 use std::sync::ledger::Ledger;
 use topo_base::{Element, FeatureId, Memory, RelationRow, RowId, RowWrite, Rule, Steps};
-use topo_tables::{Excerpt, Tables, Writes};
+use topo_tables::{Tables, Writes};
 
 /// Whether the row lists the feature.
 fn lists_feature<L: Ledger>(
@@ -110,28 +109,20 @@ fn going<L: Ledger>(
 /// A feature goes with its rows, by the rules NoFeature and FeatureUsed, which is our own.
 pub fn drop_feature<L: Ledger>(
     alloc: Global,
-    excerpt: &Excerpt,
+    tables: &Tables,
     feature: FeatureId,
     steps: &mut Steps<L>,
-) -> Result<Edited, PlanEnd>
-    requires ready { IsReady (drawn excerpt.now.rows) }
-    ensures { AnswersOutcome (drawn excerpt.now.rows) excerpt.now.front
-        (drops_feature (drawn excerpt.now.rows) (feature_at (drawn excerpt.now.rows) feature)) result }
+) -> Result<Edited, EditEnd>
+    requires ready { IsReady (drawn tables.now.rows) }
+    ensures { AnswersOutcome (drawn tables.now.rows)
+        (drops_feature (drawn tables.now.rows) (feature_at (drawn tables.now.rows) feature)) result }
 {
-    let front = excerpt.front();
-    let tables = excerpt.tables();
     let Some(row) = tables.feature(feature, steps) else {
-        return Err(PlanEnd::Refused {
-            rule: Rule::NoFeature,
-            front,
-        });
+        return Err(EditEnd::Refused(Rule::NoFeature));
     };
     let feature = row.feature_id;
     if is_used(tables, feature, tables.relations(), steps) {
-        return Err(PlanEnd::Refused {
-            rule: Rule::FeatureUsed,
-            front,
-        });
+        return Err(EditEnd::Refused(Rule::FeatureUsed));
     }
     Ok(going(alloc, tables, feature, steps)?)
 }

@@ -1,17 +1,21 @@
-//! Plans of features: createtopogeom, addelement, remelement and dropfeature, after CreateTopoGeom,
-//! TopoGeom_addElement, TopoGeom_remElement and the drop of a TopoGeometry of PostGIS Topology.
+//! Layers and features: addlayer, createtopogeom, addelement, remelement and dropfeature, after
+//! AddTopoGeometryColumn, CreateTopoGeom, TopoGeom_addElement, TopoGeom_remElement and the drop of a TopoGeometry of
+//! PostGIS Topology.
 //!
-//! It stands on the excerpts and tables of `topo_tables`, the plans of `read_set` and what `layer_tree` finds
-//! before a plan is made. It promises a plan where the edit is accepted on the excerpt, and else the rule that
-//! refuses it, by the rules in their order. To make the writes is left to whoever keeps the tables.
+//! It stands on the tables of `topo_tables` and the answers of `read_set`. It promises the row writes and the ids
+//! of the edit where it is accepted on the tables, and else the rule that refuses it, by the rules in their order.
+//! To make a plan is left to `edit_plan`, and to make the writes to whoever keeps the tables.
 #![tactic(auto)]
 
 mod creating;
 mod dropping;
+mod layers;
 mod listing;
 mod pairs;
-mod planning;
 #[cfg(test)]
 mod tests;
 
-pub use planning::plan;
+pub use creating::create;
+pub use dropping::drop_feature;
+pub use layers::add_layer;
+pub use listing::{add_element, remove_element};

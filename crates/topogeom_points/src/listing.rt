@@ -7,20 +7,19 @@ ghost use Rattle.drawing.specs.Edits.{add_element as adds_element, rem_element a
 ghost use Rattle.drawing.specs.Relations.{same_row};
 ghost use Rattle.drawing.specs.Tables.{drawn};
 ghost use Rattle.drawing.specs.Writable.{has_feature_row, has_layer_row};
-ghost use Rattle.layer_tree.specs.Answers.{AnswersOutcome, Follows};
+ghost use Rattle.read_set.specs.Edited.{AnswersOutcome, Follows};
 ghost use Rattle.topogeom_points.specs.Rows.{row_less, row_more};
 
 use crate::creating::row_write;
 use crate::pairs::element_rule;
-use layer_tree::{Edited, edited_by};
-use read_set::PlanEnd;
+use read_set::{EditEnd, Edited};
 use std::alloc::Global;
 use std::sync::ledger::Ledger;
 use topo_base::{
     Element, FeatureId, FeatureRow, LayerId, LayerRow, Memory, Pair, RelationRow, RowId, RowWrite,
     Rule, Steps,
 };
-use topo_tables::{Excerpt, Tables};
+use topo_tables::Tables;
 
 /// The row by which a feature lists an element.
 fn row_for(feature: FeatureId, layer: LayerId, pair: Pair) -> RelationRow
@@ -88,7 +87,7 @@ fn row_comes(
     ensures { IfOk result (λ d. Follows (drawn tables.now.rows) (row_more (drawn tables.now.rows) (row_for feature layer pair)) d) }
 {
     let one = row_write(feature.0, layer, &pair);
-    edited_by(alloc, one, Element::Feature(feature))
+    Edited::by_one(alloc, one, Element::Feature(feature))
 }
 
 /// What makes a feature list an element no more.
@@ -103,33 +102,28 @@ fn row_leaves(
     ensures { IfOk result (λ d. Follows (drawn tables.now.rows) (row_less (drawn tables.now.rows) (row_for feature layer pair)) d) }
 {
     let one = row_goes(feature, layer, pair);
-    edited_by(alloc, one, Element::Feature(feature))
+    Edited::by_one(alloc, one, Element::Feature(feature))
 }
 
 /// A feature of a layer lists an element more, by the rules of its layer, and of its rows.
 fn add_to<L: Ledger>(
     alloc: Global,
-    excerpt: &Excerpt,
+    tables: &Tables,
     feature: FeatureId,
     layer: &LayerRow,
     pair: Pair,
     steps: &mut Steps<L>,
-) -> Result<Edited, PlanEnd>
-    requires feature { IsTrue (has_feature_row excerpt.now.rows feature) }
-    requires layer { IsTrue (has_layer_row excerpt.now.rows layer.now.layer_id) }
-    ensures { AnswersOutcome (drawn excerpt.now.rows) excerpt.now.front
-        (with_element (drawn excerpt.now.rows) (row_for feature layer.now.layer_id pair) (rule_of_element (drawn excerpt.now.rows) layer.now pair)) result }
+) -> Result<Edited, EditEnd>
+    requires feature { IsTrue (has_feature_row tables.now.rows feature) }
+    requires layer { IsTrue (has_layer_row tables.now.rows layer.now.layer_id) }
+    ensures { AnswersOutcome (drawn tables.now.rows)
+        (with_element (drawn tables.now.rows) (row_for feature layer.now.layer_id pair) (rule_of_element (drawn tables.now.rows) layer.now pair)) result }
 {
-    let front = excerpt.front();
-    let tables = excerpt.tables();
     if let Some(rule) = element_rule(tables, layer, pair, steps) {
-        return Err(PlanEnd::Refused { rule, front });
+        return Err(EditEnd::Refused(rule));
     }
     if is_listed(tables, &row_for(feature, layer.layer_id, pair), steps) {
-        return Err(PlanEnd::Refused {
-            rule: Rule::ElementListed,
-            front,
-        });
+        return Err(EditEnd::Refused(Rule::ElementListed));
     }
     Ok(row_comes(alloc, tables, feature, layer.layer_id, pair)?)
 }
@@ -138,56 +132,40 @@ fn add_to<L: Ledger>(
 /// WrongKind, NoNode, NoEdge, NoFace, NoFeature, UniverseElement; and ElementListed.
 pub fn add_element<L: Ledger>(
     alloc: Global,
-    excerpt: &Excerpt,
+    tables: &Tables,
     feature: FeatureId,
     pair: Pair,
     steps: &mut Steps<L>,
-) -> Result<Edited, PlanEnd>
-    ensures { AnswersOutcome (drawn excerpt.now.rows) excerpt.now.front
-        (adds_element (drawn excerpt.now.rows) (feature_at (drawn excerpt.now.rows) feature) pair) result }
+) -> Result<Edited, EditEnd>
+    ensures { AnswersOutcome (drawn tables.now.rows)
+        (adds_element (drawn tables.now.rows) (feature_at (drawn tables.now.rows) feature) pair) result }
 {
-    let front = excerpt.front();
-    let tables = excerpt.tables();
     let Some(row) = tables.feature(feature, steps) else {
-        return Err(PlanEnd::Refused {
-            rule: Rule::NoFeature,
-            front,
-        });
+        return Err(EditEnd::Refused(Rule::NoFeature));
     };
     let Some(layer) = tables.layer(row.layer_id, steps) else {
-        return Err(PlanEnd::Refused {
-            rule: Rule::NoFeature,
-            front,
-        });
+        return Err(EditEnd::Refused(Rule::NoFeature));
     };
-    add_to(alloc, excerpt, row.feature_id, layer, pair, steps)
+    add_to(alloc, tables, row.feature_id, layer, pair, steps)
 }
 
 /// A feature lists an element no more, by the rules of TopoGeom_remElement: NoFeature, ElementNotListed.
 pub fn remove_element<L: Ledger>(
     alloc: Global,
-    excerpt: &Excerpt,
+    tables: &Tables,
     feature: FeatureId,
     pair: Pair,
     steps: &mut Steps<L>,
-) -> Result<Edited, PlanEnd>
-    ensures { AnswersOutcome (drawn excerpt.now.rows) excerpt.now.front
-        (removes_element (drawn excerpt.now.rows) (feature_at (drawn excerpt.now.rows) feature) pair) result }
+) -> Result<Edited, EditEnd>
+    ensures { AnswersOutcome (drawn tables.now.rows)
+        (removes_element (drawn tables.now.rows) (feature_at (drawn tables.now.rows) feature) pair) result }
 {
-    let front = excerpt.front();
-    let tables = excerpt.tables();
     let Some(row) = tables.feature(feature, steps) else {
-        return Err(PlanEnd::Refused {
-            rule: Rule::NoFeature,
-            front,
-        });
+        return Err(EditEnd::Refused(Rule::NoFeature));
     };
     let (feature, layer) = (row.feature_id, row.layer_id);
     if !is_listed(tables, &row_for(feature, layer, pair), steps) {
-        return Err(PlanEnd::Refused {
-            rule: Rule::ElementNotListed,
-            front,
-        });
+        return Err(EditEnd::Refused(Rule::ElementNotListed));
     }
     Ok(row_leaves(alloc, tables, feature, layer, pair)?)
 }

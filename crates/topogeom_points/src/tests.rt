@@ -1,21 +1,20 @@
 //! Edits of features of a town with two nodes, a layer of nodes, and a feature that lists the first node.
 
 ghost use Rattle.std.specs.Prelude.{◌≡◌, ◌<◌, ◌∷◌, ◌++◌, [], Some, None, OnOk, IfOk, IsTrue};
-ghost use Rattle.drawing.specs.Tables.{drawn, tables_of};
-ghost use Rattle.topogeom_points.specs.Ready.{IsReady, is_planned};
+ghost use Rattle.drawing.specs.Tables.{drawn};
+ghost use Rattle.read_set.specs.Ready.{IsReady};
 
-use crate::plan;
-use read_set::PlanEnd;
+use crate::{add_element, add_layer, create, drop_feature, remove_element};
+use read_set::{EditEnd, Edited};
 use std::alloc::Global;
 use std::marker::Brand;
 use std::process::Abort;
 use std::sync::ledger::{Blank, Ledger};
 use std::test::Fail;
 use topo_base::{
-    Edit, FeatureId, Grid, Kind, LayerId, Memory, Name, Pair, PairList, RowId, RowWrite, Rule,
-    Steps,
+    Element, FeatureId, Grid, Kind, LayerId, Memory, Name, Pair, RowId, RowWrite, Rule, Steps,
 };
-use topo_tables::{Excerpt, Tables, Writes};
+use topo_tables::{Tables, Writes};
 
 fn node_comes(node: u32, geom: Grid) -> RowWrite
     ensures { result ≡ RowWrite.AddNode (RowId.Old node) (Some (RowId.Old 0)) geom }
@@ -67,7 +66,6 @@ fn town<L: Ledger>(
     steps: &mut Steps<L>,
 ) -> Result<Tables, Memory>
     ensures ready { IfOk result (λ t. IsReady (drawn t.rows)) }
-    ensures stands { IfOk result (λ t. t.rows ≡ tables_of (drawn t.rows)) }
 {
     let mut writes = Writes::new(alloc);
     push_nodes(&mut writes, first, second)?;
@@ -78,40 +76,13 @@ fn town<L: Ledger>(
     Ok(tables)
 }
 
-/// Plans the edit as that of editor 1, and gives how many row writes there are.
-fn planned<L: Ledger>(
-    alloc: Global,
-    tables: &Tables,
-    edit: Edit,
-    steps: &mut Steps<L>,
-) -> Result<Result<usize, Rule>, Memory>
-    requires ready { IsReady (drawn tables.now.rows) }
-    requires stands { tables.now.rows ≡ tables_of (drawn tables.now.rows) }
-    requires planned { IsTrue (is_planned edit) }
-{
-    let excerpt = Excerpt::of(tables.copy(alloc)?, 7);
-    match plan(alloc, excerpt, edit, 1, steps) {
-        Ok(plan) => Ok(Ok(plan.writes_len())),
-        Err(PlanEnd::Refused { rule, .. }) => Ok(Err(rule)),
-        Err(PlanEnd::Memory) => Err(Memory),
+/// How many row writes there are, or the rule that refuses the edit.
+fn count(edited: Result<Edited, EditEnd>) -> Result<Result<usize, Rule>, Memory> {
+    match edited {
+        Ok(edited) => Ok(Ok(edited.writes.as_slice().len())),
+        Err(EditEnd::Refused(rule)) => Ok(Err(rule)),
+        Err(EditEnd::Memory) => Err(Memory),
     }
-}
-
-/// A feature of the layer, which lists two elements of these types.
-fn feature_of(
-    rt: &impl Abort,
-    alloc: Global,
-    layer: u32,
-    first: Pair,
-    second: Pair,
-) -> Result<Edit, Fail>
-    ensures { IfOk result (λ e. IsTrue (is_planned e)) }
-{
-    let pairs = Vec::from_slice(alloc, [first, second].as_slice())?;
-    Ok(Edit::CreateTopoGeom {
-        layer: LayerId(layer),
-        elements: PairList::of(pairs).expect(rt, "too many"),
-    })
 }
 
 fn pair(id: u32, element_type: u32) -> Pair {
@@ -125,35 +96,19 @@ fn comes_with<L: Ledger>(
     steps: &mut Steps<L>,
 ) -> Result<(), Fail>
     requires ready { IsReady (drawn tables.now.rows) }
-    requires stands { tables.now.rows ≡ tables_of (drawn tables.now.rows) }
 {
-    let both = feature_of(rt, alloc, 1, pair(2, 1), pair(1, 1))?;
-    assert!(rt; planned(alloc, tables, both, steps)? == Ok(3));
-    let twice = feature_of(rt, alloc, 1, pair(1, 1), pair(1, 1))?;
-    assert!(rt; planned(alloc, tables, twice, steps)? == Err(Rule::ElementListed));
-    let edge = feature_of(rt, alloc, 1, pair(1, 1), pair(1, 2))?;
-    assert!(rt; planned(alloc, tables, edge, steps)? == Err(Rule::WrongKind));
+    let both = [pair(2, 1), pair(1, 1)];
+    assert!(rt; count(create(alloc, tables, LayerId(1), both.as_slice(), steps))? == Ok(3));
+    let twice = [pair(1, 1), pair(1, 1)];
+    assert!(rt;
+        count(create(alloc, tables, LayerId(1), twice.as_slice(), steps))?
+            == Err(Rule::ElementListed)
+    );
+    let edge = [pair(1, 1), pair(1, 2)];
+    assert!(rt;
+        count(create(alloc, tables, LayerId(1), edge.as_slice(), steps))? == Err(Rule::WrongKind)
+    );
     Ok(())
-}
-
-fn lists_more(element: u32) -> Edit
-    ensures { IsTrue (is_planned result) }
-{
-    Edit::AddElement {
-        feature: FeatureId(1),
-        id: element,
-        element_type: 1,
-    }
-}
-
-fn lists_less(element: u32) -> Edit
-    ensures { IsTrue (is_planned result) }
-{
-    Edit::RemElement {
-        feature: FeatureId(1),
-        id: element,
-        element_type: 1,
-    }
 }
 
 fn listed<L: Ledger>(
@@ -161,30 +116,30 @@ fn listed<L: Ledger>(
     alloc: Global,
     tables: &Tables,
     steps: &mut Steps<L>,
-) -> Result<(), Fail>
-    requires ready { IsReady (drawn tables.now.rows) }
-    requires stands { tables.now.rows ≡ tables_of (drawn tables.now.rows) }
-{
-    assert!(rt; planned(alloc, tables, lists_more(2), steps)? == Ok(1));
-    assert!(rt; planned(alloc, tables, lists_more(3), steps)? == Err(Rule::NoNode));
-    assert!(rt; planned(alloc, tables, lists_less(1), steps)? == Ok(1));
+) -> Result<(), Fail> {
+    let one = FeatureId(1);
+    assert!(rt; count(add_element(alloc, tables, one, pair(2, 1), steps))? == Ok(1));
+    assert!(rt; count(add_element(alloc, tables, one, pair(3, 1), steps))? == Err(Rule::NoNode));
+    assert!(rt; count(remove_element(alloc, tables, one, pair(1, 1), steps))? == Ok(1));
+    assert!(rt;
+        count(remove_element(alloc, tables, one, pair(2, 1), steps))? == Err(Rule::ElementNotListed)
+    );
     Ok(())
 }
 
-fn goes<L: Ledger>(
+fn comes_and_goes<L: Ledger>(
     rt: &impl Abort,
     alloc: Global,
     tables: &Tables,
+    name: &Name,
     steps: &mut Steps<L>,
 ) -> Result<(), Fail>
     requires ready { IsReady (drawn tables.now.rows) }
-    requires stands { tables.now.rows ≡ tables_of (drawn tables.now.rows) }
 {
-    let edit = Edit::DropFeature {
-        feature: FeatureId(1),
-    };
-    assert!(rt; planned(alloc, tables, edit, steps)? == Ok(2));
-    assert!(rt; planned(alloc, tables, lists_less(2), steps)? == Err(Rule::ElementNotListed));
+    assert!(rt; count(drop_feature(alloc, tables, FeatureId(1), steps))? == Ok(2));
+    assert!(rt;
+        count(add_layer(alloc, tables, name, Kind::Puntal, None, steps))? == Err(Rule::NameTaken)
+    );
     Ok(())
 }
 
@@ -197,13 +152,34 @@ fn in_town<L: Ledger>(rt: &impl Abort, alloc: Global, blank: Blank) -> Result<()
     let first = Grid::of(0, 0).expect(rt, "off the grid");
     let second = Grid::of(5, 5).expect(rt, "off the grid");
     let name = Name::of(Vec::from_slice(alloc, b"stops".as_slice())?).expect(rt, "no name");
-    let tables = town(alloc, first, second, name, &mut steps)?;
+    let tables = town(alloc, first, second, name.copy(alloc)?, &mut steps)?;
     comes_with(rt, alloc, &tables, &mut steps)?;
     listed(rt, alloc, &tables, &mut steps)?;
-    goes(rt, alloc, &tables, &mut steps)
+    comes_and_goes(rt, alloc, &tables, &name, &mut steps)
+}
+
+fn on_nothing<L: Ledger>(rt: &impl Abort, alloc: Global, blank: Blank) -> Result<(), Fail>
+    requires name { blank.name ≡ L.name }
+    requires parts { blank.parts ≡ L.parts }
+    requires some { 0 < blank.parts }
+{
+    let mut steps = Steps::<L>::new(blank);
+    let name = Name::of(Vec::from_slice(alloc, b"stops".as_slice())?).expect(rt, "no name");
+    let tables = Tables::empty(alloc);
+    let first = add_layer(alloc, &tables, &name, Kind::Puntal, None, &mut steps)?;
+    assert!(rt; first.ids.as_slice() == [Element::Layer(LayerId(1))].as_slice());
+    let child = Some(LayerId(1));
+    let refused = count(add_layer(alloc, &tables, &name, Kind::Puntal, child, &mut steps))?;
+    assert!(rt; refused == Err(Rule::NoLayer));
+    Ok(())
 }
 
 #[test]
 fn features_of_a_town(rt: HostRuntime) -> Result<(), Fail> {
     in_town::<Brand>(&rt, rt.alloc(), Blank::new(1))
+}
+
+#[test]
+fn a_layer_comes(rt: HostRuntime) -> Result<(), Fail> {
+    on_nothing::<Brand>(&rt, rt.alloc(), Blank::new(1))
 }

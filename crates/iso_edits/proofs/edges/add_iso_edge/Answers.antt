@@ -1,4 +1,4 @@
-use Rattle.std.proofs.Common.{◌++◌, ◌≡◌, [], sym, ap, ◌∙◌, ◌∷◌, Some, true, false, eqb, unwrap_or}
+use Rattle.std.proofs.Common.{arith, ◌+◌, ◌<◌, ◌^◌, ◌++◌, ◌≡◌, [], sym, ap, ◌∙◌, ◌∷◌, Some, true, false, eqb, unwrap_or}
 use Rattle.std.specs.Option.{option_eq}
 use Rattle.topo_base.specs.declared.edit.Edit.TheVariants.{AddIsoEdge}
 use Rattle.topo_base.specs.declared.rows.Counters.{Counters}
@@ -12,7 +12,7 @@ use Rattle.drawing.specs.Tables.{drawn}
 use Rattle.iso_edits.proofs.IsolatedEdges.{edge_comes, edge_comes_where, edge_writes}
 use Rattle.iso_edits.proofs.Answering.{answers_with, found_row}
 use Rattle.face_boxes.specs.Bounds.{box_with, box_write, without}
-use Rattle.iso_edits.proofs.KnownFaces.{node_face}
+use Rattle.iso_edits.proofs.KnownFaces.{knows_faces, node_face}
 use Rattle.iso_edits.proofs.edges.add_iso_edge.Goals as goal
 
 pub returns-clause-answer : goal.returns-clause-answer
@@ -41,10 +41,11 @@ returns-clause-answer g c =
     c.beside_new-beside.ensures.bounds
     ∙ ap (λ k. box_with line (without k S) (unwrap_or a.containing_face 0)) next
     ∙ ap (box_with line (without S.next_ids.edge S)) (sym face) in
-    let listed : has_face S f ≡ true = ap (has_face S) face ∙ node_face S start a c.requires.faces found_a in
+    let listed : has_face S f ≡ true = ap (has_face S) face ∙ node_face S start a (knows_faces S c.requires.ready) found_a in
+    let more : S.next_ids.edge + 1 < 2 ^ 32 = omega (arith, c.requires.ready.edge_more) in
     let ws = edge_writes n a.node_id b.node_id f line ++ box_write f beside.bounds in
     let plan : IsPlanFor S (AddIsoEdge start end line) ws (the_edge n ∷ []) =
-    rw next (edge_comes S start end a b line f beside.bounds listed bounds (record { test = c.requires.plain.edge_ids }) c.requires.edge_more found_a found_b differ lone_a lone_b
+    rw next (edge_comes S start end a b line f beside.bounds listed bounds (record { test = c.requires.plain.edge_ids }) more found_a found_b differ lone_a lone_b
     (edge_comes_where S start end a b line f found_a found_b differ lone_a lone_b within ends simple free face)) in
     answers_with S (AddIsoEdge start end line) ws (the_edge n ∷ []) c.coming_edge.result plan
     c.coming_edge.ensures.writes c.coming_edge.ensures.ids c.coming_edge.ensures.err

@@ -10,7 +10,7 @@ use Rattle.drawing.specs.Tables.{drawn, drawn_edge, face_box}
 use Rattle.iso_edits.proofs.IsolatedEdges.{edge_goes, edge_goes_where, gone_writes}
 use Rattle.iso_edits.proofs.Answering.{answers_with}
 use Rattle.face_boxes.specs.Bounds.{box_write, other_write, without}
-use Rattle.iso_edits.proofs.KnownFaces.{edge_faces, ends_there}
+use Rattle.iso_edits.proofs.KnownFaces.{knows_faces, edge_faces, ends_there}
 use Rattle.edit_conditions.proofs.RowTests.{edge_found, edge_none}
 use Rattle.iso_edits.proofs.edges.remove_iso_edge.Goals as goal
 
@@ -53,7 +53,7 @@ returns-clause-answer g c =
     let parts = and_parts (not (e.start_node == e.end_node) && only_a) only_b isolated in
     let front = and_parts (not (e.start_node == e.end_node)) only_a parts.0 in
     let there = ends_there S n e c.requires.plain.plain found in
-    let listed = edge_faces S n e c.requires.faces found in
+    let listed = edge_faces S n e (knows_faces S c.requires.ready) found in
     let left = c.beside_gone-left.result in
     let right = c.beside_gone-right.result in
     let on_left : left.face ≡ e.left_face = c.beside_gone-left.ensures.face in

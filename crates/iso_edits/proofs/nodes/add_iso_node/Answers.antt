@@ -9,6 +9,7 @@ use Rattle.drawing.specs.Outcome.{the_node}
 use Rattle.read_set.specs.Plans.{IsPlanFor}
 use Rattle.drawing.specs.Tables.{drawn}
 use Rattle.iso_edits.proofs.IsolatedNodes.{node_comes, node_comes_where, face_listed}
+use Rattle.iso_edits.proofs.KnownFaces.{knows_faces}
 use Rattle.iso_edits.proofs.Answering.{answers_with}
 use Rattle.iso_edits.proofs.nodes.add_iso_node.Goals as goal
 
@@ -24,9 +25,9 @@ returns-clause-answer g c =
     let accepts : accepts_face S face ≡ true = sym c.accepts_face.ensures ∙ c.if-not-accepts_face.false in
     let free : is_blocked S p ≡ false = sym c.is_blocked.ensures.test ∙ c.if-is_blocked.false in
     let given : is_given_face face f ≡ true = sym c.is_given_face.ensures ∙ c.if-not-is_given_face.false in
-    let there : has_face S f ≡ true = ap (has_face S) within ∙ face_listed S p c.requires.faces.universe in
+    let there : has_face S f ≡ true = ap (has_face S) within ∙ face_listed S p (knows_faces S c.requires.ready).universe in
     let one = c.add_node-one.result in
     let plan : IsPlanFor S (AddIsoNode face p) (one ∷ []) (the_node n ∷ []) =
-    rw (c.add_node-one.ensures, next) (node_comes S face p f there c.requires.node_more (node_comes_where S face p f within accepts free given)) in
-    answers_with S (AddIsoNode face p) (one ∷ []) (the_node n ∷ []) c.draft_of.result plan
-    c.draft_of.ensures.writes c.draft_of.ensures.ids c.draft_of.ensures.err
+    rw (c.add_node-one.ensures, next) (node_comes S face p f there c.requires.ready.node_more (node_comes_where S face p f within accepts free given)) in
+    answers_with S (AddIsoNode face p) (one ∷ []) (the_node n ∷ []) c.edited_by.result plan
+    c.edited_by.ensures.writes c.edited_by.ensures.ids c.edited_by.ensures.err

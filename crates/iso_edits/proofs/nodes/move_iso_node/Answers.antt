@@ -29,5 +29,5 @@ returns-clause-answer g c =
     ap (λ f. option_eq eqb row.containing_face (Some f)) (sym at) ∙ sym c.is_same_face.ensures ∙ c.if-not-is_same_face.false in
     let plan : IsPlanFor S (MoveIsoNode c.args.node p) (SetPoint (Old k) p ∷ []) (the_node row.node_id ∷ []) =
     rw id (node_moves S c.args.node row p found (node_moves_where S c.args.node row p found isolated free within)) in
-    answers_with S (MoveIsoNode c.args.node p) (SetPoint (Old k) p ∷ []) (the_node row.node_id ∷ []) c.draft_of.result plan
-    c.draft_of.ensures.writes c.draft_of.ensures.ids c.draft_of.ensures.err
+    answers_with S (MoveIsoNode c.args.node p) (SetPoint (Old k) p ∷ []) (the_node row.node_id ∷ []) c.edited_by.result plan
+    c.edited_by.ensures.writes c.edited_by.ensures.ids c.edited_by.ensures.err

@@ -25,5 +25,5 @@ returns-clause-answer g c =
     let free' : is_in_feature S node_type row.node_id ≡ false = ap (is_in_feature S node_type) (sym id) ∙ free in
     let plan : IsPlanFor S (RemoveIsoNode c.args.node) (DropNode (Old k) ∷ []) (the_node row.node_id ∷ []) =
     rw id (node_goes S c.args.node row found (node_goes_where S c.args.node row found isolated free')) in
-    answers_with S (RemoveIsoNode c.args.node) (DropNode (Old k) ∷ []) (the_node row.node_id ∷ []) c.draft_of.result plan
-    c.draft_of.ensures.writes c.draft_of.ensures.ids c.draft_of.ensures.err
+    answers_with S (RemoveIsoNode c.args.node) (DropNode (Old k) ∷ []) (the_node row.node_id ∷ []) c.edited_by.result plan
+    c.edited_by.ensures.writes c.edited_by.ensures.ids c.edited_by.ensures.err

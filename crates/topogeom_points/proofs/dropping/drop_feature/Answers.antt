@@ -7,19 +7,19 @@ use Rattle.drawing.specs.Edits.{drop_feature}
 use Rattle.drawing.specs.Outcome.{Outcome}
 use Rattle.drawing.specs.Relations.{lists_feature}
 use Rattle.drawing.specs.Tables.{Tables, drawn}
-use Rattle.layer_tree.specs.Answers.{Follows}
-use Rattle.layer_tree.proofs.Found.{found_row, own_there}
+use Rattle.read_set.specs.Edited.{Follows}
+use Rattle.topogeom_points.proofs.Found.{found_row, own_there}
 use Rattle.topogeom_points.proofs.FeatureGoes.{goes_where}
 use Rattle.topogeom_points.proofs.dropping.drop_feature.Goals as goal
 
 pub going-requires-clause-there : goal.going-requires-clause-there
 going-requires-clause-there g c =
-    let rows = c.tables-tables.result.now.rows.features in
+    let rows = c.args.tables.now.rows.features in
     own_there feature_id_of rows c.args.feature (c.in-Some.row.now) (found_row feature_id_of c.feature.result c.in-Some.row rows rows c.args.feature c.in-Some.is c.feature.ensures.row refl)
 
 pub returns : goal.returns
 returns g c =
-    let t = c.tables-tables.result.now.rows in
+    let t = c.args.tables.now.rows in
     let S = drawn t in
     let f = c.args.feature in
     let d = c.in_ok-going.field-0 in
@@ -27,5 +27,4 @@ returns g c =
     let found : feature_at S f ≡ Some row = found_row feature_id_of c.feature.result c.in-Some.row t.features t.features f c.in-Some.is c.feature.ensures.row refl in
     let free : list_any (lists_feature S row.feature_id) S.relations ≡ false =
     ap (λ (rows : List RelationRow). list_any (lists_feature S row.feature_id) rows) (sym c.relations.ensures) ∙ sym c.is_used.ensures ∙ c.if-is_used.false in
-    subst (λ (u : Tables). Follows (drawn u) (drop_feature (drawn u) (feature_at (drawn u) f)) d) c.tables-tables.ensures
-    (subst (λ (o : Outcome). Follows S o d) (sym (goes_where S f row found free)) c.in_ok-going.ensures)
+    subst (λ (o : Outcome). Follows S o d) (sym (goes_where S f row found free)) c.in_ok-going.ensures

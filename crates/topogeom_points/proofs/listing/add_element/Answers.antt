@@ -1,19 +1,18 @@
-use Rattle.std.proofs.Common.{ap}
+use Rattle.std.proofs.Common.{refl}
 use Rattle.drawing.specs.Drawing.{feature_id_of, layer_id_of}
-use Rattle.drawing.specs.Tables.{Tables}
-use Rattle.layer_tree.proofs.Found.{found_row, own_there}
+use Rattle.topogeom_points.proofs.Found.{found_row, own_there}
 use Rattle.topogeom_points.proofs.listing.add_element.Goals as goal
 
 pub add_to-requires-clause-feature : goal.add_to-requires-clause-feature
 add_to-requires-clause-feature g c =
-    let there = c.tables-tables.result.now.rows.features in
-    let rows = c.args.excerpt.now.rows.features in
+    let there = c.args.tables.now.rows.features in
+    let rows = c.args.tables.now.rows.features in
     own_there feature_id_of rows c.args.feature (c.in-Some.row.now)
-    (found_row feature_id_of c.feature.result c.in-Some.row there rows c.args.feature c.in-Some.is c.feature.ensures.row (ap (λ (t : Tables). t.features) c.tables-tables.ensures))
+    (found_row feature_id_of c.feature.result c.in-Some.row there rows c.args.feature c.in-Some.is c.feature.ensures.row refl)
 
 pub add_to-requires-clause-layer : goal.add_to-requires-clause-layer
 add_to-requires-clause-layer g c =
-    let there = c.tables-tables.result.now.rows.layers in
-    let rows = c.args.excerpt.now.rows.layers in
+    let there = c.args.tables.now.rows.layers in
+    let rows = c.args.tables.now.rows.layers in
     own_there layer_id_of rows c.in-Some.row.now.layer_id (c.in-Some-layer.layer.now)
-    (found_row layer_id_of c.layer.result c.in-Some-layer.layer there rows c.in-Some.row.now.layer_id c.in-Some-layer.is c.layer.ensures.row (ap (λ (t : Tables). t.layers) c.tables-tables.ensures))
+    (found_row layer_id_of c.layer.result c.in-Some-layer.layer there rows c.in-Some.row.now.layer_id c.in-Some-layer.is c.layer.ensures.row refl)

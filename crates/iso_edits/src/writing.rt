@@ -1,58 +1,17 @@
+// The row writes of the edits of isolated nodes and edges.
 ghost use Rattle.std.specs.Prelude.{◌≡◌, ◌∷◌, ◌++◌, [], true, false, Some, None, IfOk, IfErr, OnOk};
 ghost use Rattle.face_boxes.specs.Bounds.{box_write, other_write};
 
+use read_set::{EditEnd, Edited, one_id};
 use std::alloc::Global;
-use topo_base::{
-    Box4, EdgeId, Element, FaceId, Ids, Line, Memory, NodeId, RowDart, RowId, RowWrite, Rule,
-};
+use topo_base::{Box4, EdgeId, Element, FaceId, Line, Memory, NodeId, RowDart, RowId, RowWrite};
 use topo_tables::Writes;
-
-/// The row writes of an edit, and what its reply names.
-#[derive(Drop)]
-pub struct Draft {
-    pub writes: Writes,
-    pub ids: Ids,
-}
-
-/// Why an edit has no draft: a rule refuses it, or memory ran out.
-#[derive(Clone, Copy, Debug, PartialEq, Eq)]
-pub enum DraftEnd {
-    Refused(Rule),
-    Memory,
-}
-
-impl From<Memory> for DraftEnd {
-    ghost use Rattle.std.specs.Prelude.{◌≡◌};
-    ghost use Rattle.iso_edits.specs.declared.draft.DraftEnd.TheVariants.{Memory};
-
-    ghost from_gives = { λ _ e. e ≡ Memory };
-
-    fn from(_: Memory) -> Self {
-        DraftEnd::Memory
-    }
-}
 
 /// A face, and the box that it has after an edit.
 #[derive(Clone, Copy, Debug, PartialEq, Eq)]
 pub struct Bounded {
     pub face: FaceId,
     pub bounds: Option<Box4>,
-}
-
-fn one_write(alloc: Global, one: RowWrite) -> Result<Writes, Memory>
-    ensures { IfOk result (λ w. w ≡ one ∷ []) }
-{
-    let mut writes = Writes::new(alloc);
-    writes.push(one)?;
-    Ok(writes)
-}
-
-fn one_id(element: Element) -> Ids
-    ensures { result ≡ element ∷ [] }
-{
-    let mut ids = Ids::new();
-    ids.push(element);
-    ids
 }
 
 /// A write that sets a node's containing face.
@@ -136,7 +95,7 @@ fn push_other_box(writes: &mut Writes, left: &Bounded, right: &Bounded) -> Resul
     Ok(())
 }
 
-/// A draft of an edge that comes, in a face that then has this box, between two nodes that are
+/// The writes of an edge that comes, in a face that then has this box, between two nodes that are
 /// isolated no more.
 pub fn coming_edge(
     alloc: Global,
@@ -145,24 +104,24 @@ pub fn coming_edge(
     end: NodeId,
     line: &Line,
     beside: &Bounded,
-) -> Result<Draft, DraftEnd>
+) -> Result<Edited, EditEnd>
     ensures writes { IfOk result (λ d. d.writes ≡ (RowWrite.AddEdge (RowId.Old edge) (RowId.Old start) (RowId.Old end)
         (record { edge = RowId.Old edge; forward = false }) (record { edge = RowId.Old edge; forward = true })
         (RowId.Old beside.now.face) (RowId.Old beside.now.face) line.now
         ∷ RowWrite.SetContaining (RowId.Old end) None ∷ RowWrite.SetContaining (RowId.Old start) None ∷ []) ++ box_write beside.now.face beside.now.bounds) }
     ensures ids { IfOk result (λ d. d.ids ≡ Element.Edge edge ∷ []) }
-    ensures err { IfErr result (λ end. end ≡ DraftEnd.Memory) }
+    ensures err { IfErr result (λ end. end ≡ EditEnd.Memory) }
 {
     let one = add_edge(alloc, edge, start, end, beside.face, line)?;
     let mut writes = edge_writes(alloc, one, start, end, None)?;
     push_box(&mut writes, beside)?;
-    Ok(Draft {
+    Ok(Edited {
         writes,
         ids: one_id(Element::Edge(EdgeId(edge))),
     })
 }
 
-/// A draft of an edge that goes, and leaves its two nodes isolated in its left face, and the faces
+/// The writes of an edge that goes, and leaves its two nodes isolated in its left face, and the faces
 /// beside it with these boxes.
 pub fn going_edge(
     alloc: Global,
@@ -171,12 +130,12 @@ pub fn going_edge(
     end: NodeId,
     left: &Bounded,
     right: &Bounded,
-) -> Result<Draft, DraftEnd>
+) -> Result<Edited, EditEnd>
     ensures writes { IfOk result (λ d. d.writes ≡ (RowWrite.DropEdge (RowId.Old edge)
         ∷ RowWrite.SetContaining (RowId.Old end) (Some (RowId.Old left.now.face)) ∷ RowWrite.SetContaining (RowId.Old start) (Some (RowId.Old left.now.face)) ∷ [])
         ++ (box_write left.now.face left.now.bounds ++ other_write left.now.face right.now.face right.now.bounds)) }
     ensures ids { IfOk result (λ d. d.ids ≡ Element.Edge edge ∷ []) }
-    ensures err { IfErr result (λ end. end ≡ DraftEnd.Memory) }
+    ensures err { IfErr result (λ end. end ≡ EditEnd.Memory) }
 {
     let one = RowWrite::DropEdge {
         edge: RowId::Old(edge.0),
@@ -185,21 +144,17 @@ pub fn going_edge(
     let mut writes = edge_writes(alloc, one, start, end, containing)?;
     push_box(&mut writes, left)?;
     push_other_box(&mut writes, left, right)?;
-    Ok(Draft {
+    Ok(Edited {
         writes,
         ids: one_id(Element::Edge(edge)),
     })
 }
 
-/// A draft of one write, whose reply names one element.
-pub fn draft_of(alloc: Global, one: RowWrite, element: Element) -> Result<Draft, DraftEnd>
+/// One write, whose reply names one element.
+pub fn edited_by(alloc: Global, one: RowWrite, element: Element) -> Result<Edited, EditEnd>
     ensures writes { IfOk result (λ d. d.writes ≡ one ∷ []) }
     ensures ids { IfOk result (λ d. d.ids ≡ element ∷ []) }
-    ensures err { IfErr result (λ end. end ≡ DraftEnd.Memory) }
+    ensures err { IfErr result (λ end. end ≡ EditEnd.Memory) }
 {
-    let writes = one_write(alloc, one)?;
-    Ok(Draft {
-        writes,
-        ids: one_id(element),
-    })
+    Ok(Edited::by_one(alloc, one, element)?)
 }

@@ -7,16 +7,16 @@ ghost use Rattle.drawing.specs.Layers.{is_name_taken as is_taken, same_kind};
 ghost use Rattle.drawing.specs.Edits.{add_layer as added_layer, layer_on as layer_above, with_layer};
 ghost use Rattle.drawing.specs.Tables.{drawn};
 ghost use Rattle.drawing.specs.Writable.{has_layer_row};
-ghost use Rattle.layer_tree.specs.Answers.{AnswersOutcome, Follows, IsThereIfGiven};
-ghost use Rattle.layer_tree.specs.Ready.{IsReady};
+ghost use Rattle.read_set.specs.Edited.{AnswersOutcome, Follows};
+ghost use Rattle.topogeom_points.specs.Rows.{IsThereIfGiven};
+ghost use Rattle.read_set.specs.Ready.{IsReady};
 
-use crate::edited::{Edited, edited_by};
 use edit_conditions::{RowTest, any_row};
-use read_set::PlanEnd;
+use read_set::{EditEnd, Edited};
 use std::alloc::Global;
 use std::sync::ledger::Ledger;
 use topo_base::{Element, Kind, LayerId, LayerRow, Memory, Name, RowId, RowWrite, Rule, Steps};
-use topo_tables::{Excerpt, Tables};
+use topo_tables::Tables;
 
 /// The layer has this name.
 #[derive(Drop)]
@@ -82,35 +82,27 @@ fn with_level(
         kind,
         name: name.copy(alloc)?,
     };
-    edited_by(alloc, one, Element::Layer(LayerId(layer)))
+    Edited::by_one(alloc, one, Element::Layer(LayerId(layer)))
 }
 
 /// A layer comes upon a child, if that is there and has its type.
 fn on_child<L: Ledger>(
     alloc: Global,
-    excerpt: &Excerpt,
+    tables: &Tables,
     name: &Name,
     kind: Kind,
     child: LayerId,
     steps: &mut Steps<L>,
-) -> Result<Edited, PlanEnd>
-    requires ready { IsReady (drawn excerpt.now.rows) }
-    ensures { AnswersOutcome (drawn excerpt.now.rows) excerpt.now.front
-        (layer_above (drawn excerpt.now.rows) name.now kind (layer_at (drawn excerpt.now.rows) child)) result }
+) -> Result<Edited, EditEnd>
+    requires ready { IsReady (drawn tables.now.rows) }
+    ensures { AnswersOutcome (drawn tables.now.rows)
+        (layer_above (drawn tables.now.rows) name.now kind (layer_at (drawn tables.now.rows) child)) result }
 {
-    let front = excerpt.front();
-    let tables = excerpt.tables();
     let Some(row) = tables.layer(child, steps) else {
-        return Err(PlanEnd::Refused {
-            rule: Rule::NoLayer,
-            front,
-        });
+        return Err(EditEnd::Refused(Rule::NoLayer));
     };
     if !is_same_kind(row.feature_type, kind) {
-        return Err(PlanEnd::Refused {
-            rule: Rule::WrongKind,
-            front,
-        });
+        return Err(EditEnd::Refused(Rule::WrongKind));
     }
     let level = row.level + 1;
     Ok(with_level(alloc, tables, name, kind, Some(row.layer_id), level)?)
@@ -119,25 +111,20 @@ fn on_child<L: Ledger>(
 /// A layer comes, by the rules of AddTopoGeometryColumn: NameTaken; and with a child NoLayer, WrongKind.
 pub fn add_layer<L: Ledger>(
     alloc: Global,
-    excerpt: &Excerpt,
+    tables: &Tables,
     name: &Name,
     kind: Kind,
     child: Option<LayerId>,
     steps: &mut Steps<L>,
-) -> Result<Edited, PlanEnd>
-    requires ready { IsReady (drawn excerpt.now.rows) }
-    ensures { AnswersOutcome (drawn excerpt.now.rows) excerpt.now.front (added_layer (drawn excerpt.now.rows) name.now kind child) result }
+) -> Result<Edited, EditEnd>
+    requires ready { IsReady (drawn tables.now.rows) }
+    ensures { AnswersOutcome (drawn tables.now.rows) (added_layer (drawn tables.now.rows) name.now kind child) result }
 {
-    let front = excerpt.front();
-    let tables = excerpt.tables();
     if is_name_taken(tables, name, steps) {
-        return Err(PlanEnd::Refused {
-            rule: Rule::NameTaken,
-            front,
-        });
+        return Err(EditEnd::Refused(Rule::NameTaken));
     }
     match child {
         None => Ok(with_level(alloc, tables, name, kind, None, 0)?),
-        Some(child) => on_child(alloc, excerpt, name, kind, child, steps),
+        Some(child) => on_child(alloc, tables, name, kind, child, steps),
     }
 }
