@@ -20,7 +20,7 @@ use Rattle.plane.proofs.Collinear.{at_point}
 use Rattle.plane.proofs.ListTests.{Some_of, Decides-any, Decides-all, contains_here, contains_there}
 use Rattle.plane.proofs.Middle.{HasOther, another, at_or_not, on_at}
 use Rattle.plane.proofs.MeetTests.{Decides-overlaps, Decides-meets_only_at, at_one, one_or_none}
-use Rattle.plane.proofs.LineTests.{from_at, Decides-at, Decides-at_other, Decides-on_line, Decides-inside_line, all_from, Decides-own_ends}
+use Rattle.plane.proofs.LineTests.{from_at, Decides-at_other, Decides-on_line, Decides-inside_line, Decides-own_ends}
 
 pub Decides-on_edge : (S : Drawing) (p : Point) → Decides (is_on_edge S p) (IsAtEdge S (rational p))
 Decides-on_edge S p = Decides-any (λ (e : Edge). on_line p e.geom) (λ (e : Edge). IsOnEdge (rational p) e) (λ e. Decides-on_line p e.geom) S.edges

@@ -1,10 +1,8 @@
 -- An added edge: the face in which it lies, and the parts into which it may divide that face.
-use Rattle.std.specs.Prelude.{ℕ, ◌+◌, Bool, not, ◌&&◌, ◌||◌, ◌==◌, nat_eq, List, [], ◌∷◌, ◌++◌, map, reverse, filter, Option, Some, None, Ok, Err, if◌then◌else◌}
+use Rattle.std.specs.Prelude.{ℕ, ◌+◌, Bool, not, ◌&&◌, ◌==◌, nat_eq, List, [], ◌∷◌, map, reverse, Some, if◌then◌else◌}
 use Rattle.std.specs.Option.{option_eq}
 use Rattle.topo_base.specs.Point.{Point}
 use Rattle.topo_base.specs.declared.rows.NodeRow.{NodeRow}
-use Rattle.topo_base.specs.declared.rule.Rule.TheVariants.{NoNode, LineEnds, LineNotSimple, LineBlocked}
-use Rattle.plane.specs.Line.{is_simple}
 use Rattle.drawing.specs.Drawing.{Drawing, Edge}
 use Rattle.drawing.specs.HalfEdge.{HalfEdge, forward_of, backward_of, half_edges}
 use Rattle.plane.specs.Direction.{first_direction}
@@ -12,9 +10,6 @@ use Rattle.drawing.specs.Ring.{ring_of, ring_segments, contains_half_edge, least
 use Rattle.plane.specs.Parity.{xor, is_odd_over}
 use Rattle.drawing.specs.Faces.{wedge_face}
 use Rattle.drawing.specs.Relations.{follow, face_type}
-use Rattle.drawing.specs.Outcome.{Outcome, the_edge, the_face}
-use Rattle.drawing.specs.Blocked.{is_line_blocked, goes_between}
-use Rattle.drawing.specs.IsoEdits.{with_edge}
 
 -- the edge that comes
 abbrev pub coming : Drawing → NodeRow → NodeRow → List Point → ℕ → Edge

@@ -1,5 +1,5 @@
 -- The decision on an edit: the first rule that refuses it, or the change that it makes.
-use Rattle.std.specs.Prelude.{ℕ, ◌+◌, Bool, true, false, not, ◌&&◌, ◌||◌, ◌==◌, nat_eq, List, [], Option, Some, None, Result, Ok, Err, unwrap_or, if◌then◌else◌}
+use Rattle.std.specs.Prelude.{ℕ, ◌+◌, Bool, true, false, not, ◌&&◌, ◌||◌, ◌==◌, nat_eq, List, [], Option, Some, None, Ok, Err, unwrap_or, if◌then◌else◌}
 use Rattle.std.specs.List.{list_any}
 use Rattle.std.specs.Option.{option_eq}
 use Rattle.topo_base.specs.Point.{Point}
@@ -25,7 +25,7 @@ use Rattle.drawing.specs.RemoveEdge.{have_same_features}
 use Rattle.drawing.specs.HealEdges.{is_closed, common_nodes, is_nothing, healed_node}
 use Rattle.drawing.specs.Layers.{is_name_taken, same_kind, elements_rule, element_rule, row_for, is_element_listed}
 use Rattle.drawing.specs.Apply.{Decision}
-use Rattle.drawing.specs.Change.{Change, NodeComes, NodeMoves, NodeGoes, EdgeComes, FaceIsDivided, FaceIsDividedAnew, LoneEdgeGoes, EdgeGoes, FacesJoin, FacesJoinAnew, EdgeIsCut, EdgeIsCutAnew, EdgesAreJoined, EdgesAreJoinedAnew, LayerComes, FeatureComes, FeatureLists, FeatureUnlists, FeatureGoes}
+use Rattle.drawing.specs.Change.{NodeComes, NodeMoves, NodeGoes, EdgeComes, FaceIsDivided, FaceIsDividedAnew, LoneEdgeGoes, EdgeGoes, FacesJoin, FacesJoinAnew, EdgeIsCut, EdgeIsCutAnew, EdgesAreJoined, EdgesAreJoinedAnew, LayerComes, FeatureComes, FeatureLists, FeatureUnlists, FeatureGoes}
 
 -- ---- nodes
 abbrev pub node_comes : Drawing → Option ℕ → Point → Decision

@@ -1,14 +1,11 @@
 -- Two edges healed into one at a node that has no other edge.
-use Rattle.std.specs.Prelude.{ℕ, ◌+◌, Bool, true, false, not, ◌||◌, ◌==◌, List, [], ◌∷◌, ◌++◌, reverse, filter, find, Option, Some, None, Ok, Err, if◌then◌else◌}
-use Rattle.topo_base.specs.declared.rule.Rule.TheVariants.{NoEdge, ClosedEdge, NotJoined, OthersJoined, HealSplitsFeature, NodeInFeature}
+use Rattle.std.specs.Prelude.{ℕ, ◌+◌, Bool, true, false, ◌==◌, List, [], ◌∷◌, ◌++◌, reverse, filter, find, Option, if◌then◌else◌}
 use Rattle.plane.specs.Line.{joined}
 use Rattle.drawing.specs.Rows.{without_row, with_change}
 use Rattle.drawing.specs.Drawing.{Drawing, Edge, node_id_of, edge_id_of, is_end_of, has_only}
 use Rattle.drawing.specs.HalfEdge.{HalfEdge, forward_of, backward_of}
-use Rattle.drawing.specs.Relations.{follow, node_type, edge_type}
+use Rattle.drawing.specs.Relations.{follow, edge_type}
 use Rattle.drawing.specs.Outcome.{Accepted, the_node, the_edge}
-use Rattle.drawing.specs.IsoEdits.{is_in_feature}
-use Rattle.drawing.specs.RemoveEdge.{have_same_features}
 
 -- the edge starts and ends at one node
 abbrev pub is_closed : Edge → Bool

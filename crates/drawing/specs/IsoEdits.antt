@@ -1,16 +1,10 @@
 -- Isolated nodes and isolated edges.
-use Rattle.std.specs.Prelude.{ℕ, ◌+◌, Bool, true, false, not, ◌&&◌, ◌==◌, nat_eq, List, [], ◌∷◌, ◌++◌, Option, Some, None, unwrap_or, Ok, Err, if◌then◌else◌}
-use Rattle.std.specs.Option.{option_eq}
+use Rattle.std.specs.Prelude.{ℕ, ◌+◌, Bool, true, false, not, ◌&&◌, ◌==◌, List, [], ◌∷◌, ◌++◌, Option, Some, None}
 use Rattle.topo_base.specs.Point.{Point}
 use Rattle.topo_base.specs.declared.rows.NodeRow.{NodeRow}
-use Rattle.topo_base.specs.declared.rule.Rule.TheVariants.{NoNode, NoEdge, NoFace, SameNode, NotIsolated, PointBlocked, NotInFace, LineEnds, LineNotSimple, LineBlocked, NodeInFeature, EdgeInFeature}
-use Rattle.plane.specs.Line.{is_simple}
-use Rattle.drawing.specs.Rows.{without_row, with_change}
-use Rattle.drawing.specs.Drawing.{Drawing, Edge, node_id_of, edge_id_of, has_face, is_isolated, has_only}
-use Rattle.drawing.specs.Faces.{face_at}
-use Rattle.drawing.specs.Relations.{features_of, node_type, edge_type}
-use Rattle.drawing.specs.Outcome.{Outcome, the_node, the_edge}
-use Rattle.drawing.specs.Blocked.{is_blocked, is_blocked_for, is_line_blocked, goes_between}
+use Rattle.drawing.specs.Rows.{with_change}
+use Rattle.drawing.specs.Drawing.{Drawing, Edge, node_id_of, has_face, has_only}
+use Rattle.drawing.specs.Relations.{features_of}
 
 -- any face is accepted where none is given
 abbrev pub accepts_face : Drawing → Option ℕ → Bool

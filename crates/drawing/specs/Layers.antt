@@ -1,5 +1,5 @@
 -- Layers, features and what these list.
-use Rattle.std.specs.Prelude.{ℕ, ◌+◌, Bool, false, not, ◌&&◌, ◌==◌, List, [], ◌∷◌, ◌++◌, map, filter, Option, Some, None, Ok, Err, if◌then◌else◌}
+use Rattle.std.specs.Prelude.{ℕ, ◌+◌, Bool, false, not, ◌&&◌, ◌==◌, List, [], ◌∷◌, ◌++◌, map, Option, Some, None, if◌then◌else◌}
 use Rattle.std.specs.List.{list_any}
 use Rattle.std.specs.Str.{bytes_eq}
 use Rattle.topo_base.specs.Kinds.{kind_number}
@@ -10,10 +10,9 @@ use Rattle.topo_base.specs.declared.rows.FeatureRow.{FeatureRow}
 use Rattle.topo_base.specs.declared.rows.RelationRow.{RelationRow}
 use Rattle.topo_base.specs.declared.edit.Pair.{Pair}
 use Rattle.topo_base.specs.declared.rule.Rule.{Rule}
-use Rattle.topo_base.specs.declared.rule.Rule.TheVariants.{NoNode, NoEdge, NoFace, NoLayer, NoFeature, WrongKind, NameTaken, UniverseElement, ElementListed, ElementNotListed, FeatureUsed}
-use Rattle.drawing.specs.Rows.{without_row}
-use Rattle.drawing.specs.Drawing.{Drawing, layer_at, feature_at, feature_id_of, has_node, has_edge, has_face}
-use Rattle.drawing.specs.Relations.{insert_row, ordered, lists_feature, same_row}
+use Rattle.topo_base.specs.declared.rule.Rule.TheVariants.{NoNode, NoEdge, NoFace, NoFeature, WrongKind, UniverseElement, ElementListed}
+use Rattle.drawing.specs.Drawing.{Drawing, feature_at, has_node, has_edge, has_face}
+use Rattle.drawing.specs.Relations.{ordered, same_row}
 use Rattle.drawing.specs.Outcome.{Accepted, the_layer, the_feature}
 
 -- two layers have one type

@@ -1,14 +1,12 @@
 -- A removed edge: the faces on its two sides become one.
-use Rattle.std.specs.Prelude.{ℕ, ◌+◌, Bool, not, ◌&&◌, ◌==◌, List, [], ◌∷◌, ◌++◌, map, filter, Option, Some, None, Ok, Err, if◌then◌else◌}
+use Rattle.std.specs.Prelude.{ℕ, ◌+◌, Bool, not, ◌&&◌, List, [], ◌∷◌, ◌++◌, map, filter, Some, if◌then◌else◌}
 use Rattle.std.specs.Option.{option_map}
 use Rattle.topo_base.specs.declared.rows.NodeRow.{NodeRow}
-use Rattle.topo_base.specs.declared.rule.Rule.TheVariants.{NoEdge, EdgeInFeature, FaceInFeature}
 use Rattle.std.specs.Str.{bytes_eq}
 use Rattle.drawing.specs.Rows.{without_row}
 use Rattle.drawing.specs.Drawing.{Drawing, Edge, edge_id_of, is_end_of, is_isolated}
-use Rattle.drawing.specs.Relations.{features_of, follow, is_among, edge_type, face_type}
+use Rattle.drawing.specs.Relations.{features_of, follow, is_among, face_type}
 use Rattle.drawing.specs.Outcome.{Accepted, the_face}
-use Rattle.drawing.specs.IsoEdits.{is_in_feature}
 
 -- the same numbers in the same order
 abbrev pub same_numbers : List ℕ → List ℕ → Bool

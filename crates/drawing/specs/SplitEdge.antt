@@ -1,8 +1,7 @@
 -- An edge split at a point of its line.
-use Rattle.std.specs.Prelude.{ℕ, ◌+◌, Bool, not, [], ◌∷◌, ◌++◌, Option, Some, None, Ok, Err, if◌then◌else◌}
+use Rattle.std.specs.Prelude.{ℕ, ◌+◌, [], ◌∷◌, ◌++◌, None}
 use Rattle.topo_base.specs.Point.{Point}
-use Rattle.topo_base.specs.declared.rule.Rule.TheVariants.{NoEdge, NotOnEdge}
-use Rattle.plane.specs.Line.{is_inside_line, line_up_to, line_from}
+use Rattle.plane.specs.Line.{line_up_to, line_from}
 use Rattle.drawing.specs.Rows.{without_row, with_change}
 use Rattle.drawing.specs.Drawing.{Drawing, Edge, edge_id_of}
 use Rattle.drawing.specs.Relations.{follow, edge_type}

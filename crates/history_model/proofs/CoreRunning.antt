@@ -7,10 +7,10 @@ use Rattle.topo_base.specs.declared.edit.Entry.{Entry}
 use Rattle.topo_base.specs.declared.rule.Rule.{Rule}
 use Rattle.topo_base.specs.declared.rule.Rule.TheVariants.{IdsSpent, HistoryFull}
 use Rattle.topo_base.specs.declared.element.Element.{Element}
-use Rattle.drawing.specs.Drawing.{Drawing, nothing_drawn}
+use Rattle.drawing.specs.Drawing.{nothing_drawn}
 use Rattle.drawing.specs.Outcome.{Accepted, Outcome}
 use Rattle.drawing.specs.Step.{step}
-use Rattle.drawing.specs.Replay.{replay, after, after_all, edits_of, drawing_of}
+use Rattle.drawing.specs.Replay.{replay, after, drawing_of}
 use Rattle.history_model.specs.Legal.{is_legal, journal_length}
 use Rattle.drawing.specs.Accepted.{are_accepted, is_entry, ids_within}
 use Rattle.drawing.proofs.Replaying.{are_accepted-push}

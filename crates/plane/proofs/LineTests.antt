@@ -1,5 +1,5 @@
 -- The tests that a point lies on a line, or inside one, and that lines meet at ends, say what their names say.
-use Rattle.std.proofs.Common.{sym, ◌∙◌, ◌⊎◌, inl, inr, ⊎_elim, not, List, slice_index_or}
+use Rattle.std.proofs.Common.{sym, ◌∙◌, inl, inr, ⊎_elim, not, List, slice_index_or}
 use Rattle.std.specs.List.{list_all, All, Contains}
 use Rattle.std.specs.Bool.{Decides}
 use Rattle.std.proofs.lemmas.List.Elements.{Contains-get_or, All-contains}
