@@ -33,7 +33,7 @@ use Rattle.relation_rows.proofs.KnownFeatures.{known_features}
 use Rattle.face_split.specs.Added.{added_rows}
 use Rattle.face_split.specs.Closing.{IsCut, WasAdded, in_one, left_ring, right_ring, one_part}
 use Rattle.face_split.specs.Divided.{IsDivisible, KnowsFeatures, both_boxes, followed_rows, new_face, with_new_face}
-use Rattle.face_split.specs.Ready.{IsReady}
+use Rattle.read_set.specs.Ready.{IsReady}
 use Rattle.face_split.proofs.AddedRows.{face_row_there}
 
 -- ---- what is known of the drawing

@@ -29,11 +29,11 @@ use Rattle.ring_laws.specs.Ringed.{IsRinged}
 use Rattle.face_split.specs.Added.{added_rows}
 use Rattle.face_split.specs.Placing.{IsPlaced}
 use Rattle.face_split.specs.Closing.{HasAdded, WasAdded, left_ring, with_edge_in}
-use Rattle.face_split.specs.Ready.{IsReady}
+use Rattle.read_set.specs.Ready.{IsReady}
 
 -- ---- the drawing with the line
-ringed_with : (S : Drawing) (a b : NodeRow) (line : List Point) (f : ℕ) → IsReady S → IsPlaced S a b line f → 2 ≤ length line → IsRinged (with_edge S a b line f)
-ringed_with S a b line f ready placed long = rings_stay.added S a b line f ready.ringed placed.start placed.end placed.plain long placed.lies
+ringed_with : (S : Drawing) (a b : NodeRow) (line : List Point) (f : ℕ) → IsRinged S → IsPlaced S a b line f → 2 ≤ length line → IsRinged (with_edge S a b line f)
+ringed_with S a b line f ringed placed long = rings_stay.added S a b line f ringed placed.start placed.end placed.plain long placed.lies
 
 last_holds : (p : Edge → Bool) (xs : List Edge) (x : Edge) → list_all p (xs ++ x ∷ []) ≡ true → p x ≡ true
 last_holds p [] x h = (and_parts (p x) true h).0
@@ -45,12 +45,12 @@ face_listed S a b line f h =
     let known = last_holds (is_edge_known T) S.edges (coming S a b line f) h.edges in
     (and_parts _ (has_face T f) known).1
 
-pub placed_face : (S : Drawing) (a b : NodeRow) (line : List Point) (f : ℕ) → IsReady S → IsPlaced S a b line f → 2 ≤ length line → IsTrue (has_face S f)
-placed_face S a b line f ready placed long = face_listed S a b line f (ringed_with S a b line f ready placed long)
+pub placed_face : (S : Drawing) (a b : NodeRow) (line : List Point) (f : ℕ) → IsRinged S → IsPlaced S a b line f → 2 ≤ length line → IsTrue (has_face S f)
+placed_face S a b line f ringed placed long = face_listed S a b line f (ringed_with S a b line f ringed placed long)
 
-pub was_added : (S : Drawing) (a b : NodeRow) (line : List Point) (f : ℕ) (t : Tables) → IsReady S → IsPlaced S a b line f → 2 ≤ length line → t ≡ added_rows S a b line f → WasAdded S a b line f t
-was_added S a b line f t ready placed long rows =
-    let ringed = ringed_with S a b line f ready placed long in record { ready = ready; ringed = ringed; face = face_listed S a b line f ringed; rows = rows }
+pub was_added : (S : Drawing) (a b : NodeRow) (line : List Point) (f : ℕ) (t : Tables) → IsReady S → IsRinged S → IsPlaced S a b line f → 2 ≤ length line → t ≡ added_rows S a b line f → WasAdded S a b line f t
+was_added S a b line f t ready ringed placed long rows =
+    let after = ringed_with S a b line f ringed placed long in record { ready = ready; ringed = after; face = face_listed S a b line f after; rows = rows }
 
 pub has_added : (S : Drawing) (a b : NodeRow) (line : List Point) (f edge : ℕ) (t : Tables) → WasAdded S a b line f t → edge ≡ S.next_ids.edge → HasAdded t edge f
 has_added S a b line f edge t added edge_is = record { before = S; start = a; end = b; line = line; added = added; edge_is = edge_is }

@@ -16,7 +16,7 @@ use Rattle.face_rings.specs.declared.content.BorderDart.{BorderDart}
 use Rattle.face_rings.specs.FaceBorder.{face_border}
 use Rattle.ring_laws.specs.Ringed.{IsRinged}
 use Rattle.face_split.specs.Added.{added_rows}
-use Rattle.face_split.specs.Ready.{IsReady}
+use Rattle.read_set.specs.Ready.{IsReady}
 
 -- the rows are those of S with an edge of this line more in the face f, which it doesn't divide yet; boxes are still those of S
 pub record WasAdded (S : Drawing) (a b : NodeRow) (line : List Point) (f : ℕ) (t : Tables) : Type 0 where

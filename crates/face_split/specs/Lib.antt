@@ -1,4 +1,3 @@
-pub mod Ready
 pub mod Added
 pub mod Linked
 pub mod Divided

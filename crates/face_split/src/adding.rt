@@ -11,7 +11,8 @@ ghost use Rattle.drawing.specs.Tables.{drawn, tables_of};
 ghost use Rattle.edge_links.specs.LinksLaw.{HasDirections, IsComing, rays_at};
 ghost use Rattle.read_set.specs.Drafted.{IsDraftOf};
 ghost use Rattle.face_split.specs.Added.{added_rows, added_writes, from_node, links_at, own_dart};
-ghost use Rattle.face_split.specs.Ready.{IsReady};
+ghost use Rattle.read_set.specs.Ready.{IsReady};
+ghost use Rattle.ring_laws.specs.Ringed.{IsRinged};
 
 use edge_links::{Star, insert_edge, link_writes, star_about};
 use read_set::Draft;
@@ -149,6 +150,7 @@ pub fn add_to_draft<L: Ledger>(
     steps: &mut Steps<L>,
 ) -> Result<Draft, Memory>
     requires ready { IsReady (drawn excerpt.now.rows) }
+    requires ringed { IsRinged (drawn excerpt.now.rows) }
     requires stands { excerpt.now.rows ≡ tables_of (drawn excerpt.now.rows) }
     requires start { IsTrue (has_node (drawn excerpt.now.rows) start.now.node_id) }
     requires end { IsTrue (has_node (drawn excerpt.now.rows) end.now.node_id) }

@@ -1,9 +1,9 @@
-//! Plans for added edges, after ST_AddEdgeModFace and ST_AddEdgeNewFaces of SQL/MM Topo-Geo.
+//! Added edges, after ST_AddEdgeModFace and ST_AddEdgeNewFaces of SQL/MM Topo-Geo.
 //!
 //! It stands on the stars of `edge_links`, the borders of `face_rings`, the parts of `face_parts`, the
-//! boxes of `face_boxes`, the features of `relation_rows` and the drafts and plans of `read_set`. It
-//! promises a plan where the edit is accepted on the excerpt, and else the rule that refuses it, by the
-//! rules in their order. To make the writes is left to whoever keeps the tables.
+//! boxes of `face_boxes`, the features of `relation_rows` and the drafts of `read_set`. It promises the row
+//! writes and the ids of the edit where it is accepted on the excerpt, and else the rule that refuses it, by the
+//! rules in their order. To make a plan is left to `edit_plan`.
 #![tactic(auto)]
 
 mod adding;
@@ -16,4 +16,4 @@ mod ring;
 mod wedge_tests;
 mod wedges;
 
-pub use planning::plan;
+pub use planning::add_edge;
