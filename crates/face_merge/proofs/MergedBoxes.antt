@@ -1,9 +1,8 @@
 -- The rows of faces where faces become one.
-use Rattle.std.proofs.Common.{◌≡◌, ℕ, ◌+◌, ◌<◌, ◌||◌, ◌==◌, List, [], ◌∷◌, ◌++◌, refl, sym, ap, ◌∙◌, subst, Option, None, Bool, true, false, not, eqb, eqb-true, eq-eqb, map, filter, cond, IsTrue, arith}
-use Rattle.std.specs.List.{flat_map, list_any, Contains}
+use Rattle.std.proofs.Common.{◌≡◌, ℕ, ◌||◌, ◌==◌, List, [], ◌∷◌, ◌++◌, refl, sym, ap, ◌∙◌, subst, Option, Bool, true, false, not, eqb, eqb-true, eq-eqb, map, filter, cond, IsTrue, arith}
+use Rattle.std.specs.List.{Contains}
 use Rattle.std.proofs.lemmas.Bool.Decides.{nat_tests}
 use Rattle.std.proofs.lemmas.List.Elements.{filter-append}
-use Rattle.topo_base.specs.Point.{Point}
 use Rattle.topo_base.specs.declared.rows.Box4.{Box4}
 use Rattle.topo_base.specs.declared.rows.Counters.{Counters}
 use Rattle.topo_base.specs.declared.rows.FaceRow.{FaceRow}
@@ -13,16 +12,15 @@ use Rattle.drawing.specs.Relations.{is_among}
 use Rattle.drawing.specs.RemoveEdge.{renamed, renamed_edge, without_faces}
 use Rattle.drawing.specs.Rows.{has_row, without_row}
 use Rattle.drawing.specs.Subdivision.{face_id_of}
-use Rattle.drawing.specs.Tables.{Tables, least_box, has_side, face_box, face_row}
+use Rattle.drawing.specs.Tables.{Tables, has_side, face_box, face_row}
 use Rattle.drawing.specs.Writable.{CanWriteAll, has_face_row}
 use Rattle.drawing.specs.Writes.{all_written, face_row_id}
-use Rattle.plane.proofs.ListTests.{contains_here, contains_there}
-use Rattle.drawing.proofs.Members.{ids_differ, ids_within, pairwise-same}
-use Rattle.drawing.proofs.Ordering.{InOrder, first_of}
+use Rattle.drawing.proofs.Members.{ids_differ, pairwise-same}
+use Rattle.drawing.proofs.Ordering.{InOrder}
 use Rattle.drawing.proofs.WritesInOrder.{can_write-append, written-append}
 use Rattle.edge_links.specs.UnlinksLaw.{edge_gone}
 use Rattle.face_boxes.specs.Bounds.{box_write}
-use Rattle.face_boxes.proofs.Boxes.{AreRows, beside_less, boxed, boxed_is, boxed_there, box_written, can_box, chosen, chosen_rows, points_of}
+use Rattle.face_boxes.proofs.Boxes.{AreRows, beside_less, boxed, boxed_is, boxed_there, box_written, can_box, chosen, chosen_rows}
 use Rattle.face_boxes.proofs.DividedBoxes.{below_differs, line_of, lines_beside, lines_kept, listed_below, new_row, new_rows, other_way, row_beside, with_new, zero_new}
 use Rattle.face_merge.specs.Last.{drop_face}
 use Rattle.face_merge.specs.Merge.{KeepsRows, MayGo, stay}

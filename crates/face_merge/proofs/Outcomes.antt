@@ -1,9 +1,7 @@
 -- The outcomes of a removed edge: what each of them wants of the draft, and the drawing after.
-use Rattle.std.proofs.Common.{◌≡◌, ℕ, ◌+◌, ◌&&◌, ◌||◌, ◌==◌, Bool, true, false, List, [], ◌∷◌, ◌++◌, map, refl, sym, ap, ◌∙◌, subst, inl, inr, eqb, eqb-true, eq-eqb, Ok, arith}
-use Rattle.std.specs.List.{list_all, list_any, Contains}
+use Rattle.std.proofs.Common.{◌≡◌, ℕ, ◌+◌, ◌&&◌, ◌||◌, ◌==◌, Bool, true, false, List, [], ◌∷◌, ◌++◌, refl, sym, ap, ◌∙◌, subst, inl, inr, eqb-true, eq-eqb, Ok}
+use Rattle.std.specs.List.{list_all, Contains}
 use Rattle.std.proofs.lemmas.Bool.{and_parts, or_left, or_right}
-use Rattle.std.proofs.lemmas.Bool.Decides.{nat_tests}
-use Rattle.std.proofs.lemmas.List.Folds.{list_any-append}
 use Rattle.topo_base.specs.declared.rows.Counters.{Counters}
 use Rattle.topo_base.specs.declared.rows.FaceRow.{FaceRow}
 use Rattle.drawing.specs.Drawing.{Drawing, Edge, has_face, has_node}
@@ -13,13 +11,10 @@ use Rattle.drawing.specs.Outcome.{Accepted, Outcome, the_face}
 use Rattle.drawing.specs.Relations.{is_among}
 use Rattle.drawing.specs.RemoveEdge.{without_edge}
 use Rattle.drawing.specs.Edits.{merged}
-use Rattle.drawing.specs.Rows.{has_row}
 use Rattle.drawing.specs.Subdivision.{is_edge_known}
 use Rattle.drawing.specs.Tables.{Tables, face_row, tables_of}
 use Rattle.drawing.specs.Writable.{has_face_row}
-use Rattle.drawing.specs.Writes.{face_row_id}
 use Rattle.plane.proofs.ListTests.{contains_cases, contains_none}
-use Rattle.face_boxes.proofs.Boxes.{AreRows}
 use Rattle.face_boxes.proofs.DividedBoxes.{listed_before, listed_behind, listed_first, one_is, other_way, there_in, with_new}
 use Rattle.relation_rows.proofs.KnownFeatures.{references_parts}
 use Rattle.face_merge.specs.declared.removed.Removed.{Removed}

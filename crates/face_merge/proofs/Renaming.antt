@@ -18,6 +18,7 @@ use Rattle.drawing.proofs.Ordering.{InOrder, InOrder-filter}
 use Rattle.drawing.proofs.TableLemmas.{drawn-tables_of}
 use Rattle.drawing.proofs.WritesInOrder.{written-append}
 use Rattle.face_parts.proofs.RowSides.{row_sides}
+use Rattle.face_parts.proofs.SideWrites.{contained, with_edges, with_nodes}
 use Rattle.edge_links.specs.UnlinksLaw.{edge_gone}
 use Rattle.face_parts.proofs.RowByRow.{AreBelow, ChangeRows, all_rows, change_one}
 use Rattle.face_merge.specs.declared.removed.Freed.{Freed}
@@ -27,9 +28,6 @@ use Rattle.face_merge.specs.Sides.{comes_in, edge_write, freed_if, freed_in, is_
 use Rattle.face_merge.proofs.Ids.{orders_of, rows_ordered}
 
 -- ---- sides
-abbrev pub with_edges : Tables → List EdgeRow → Tables
-with_edges t edges = record t { edges = edges }
-
 abbrev pub renamed_row : List ℕ → ℕ → EdgeRow → EdgeRow
 renamed_row gone kept r = record r { left_face = renamed gone kept r.left_face; right_face = renamed gone kept r.right_face }
 
@@ -63,12 +61,6 @@ rows_renamed gone kept all (e ∷ edges) =
     λ i. sym first i ∷ rest i
 
 -- ---- containing faces
-abbrev pub with_nodes : Tables → List NodeRow → Tables
-with_nodes t nodes = record t { nodes = nodes }
-
-abbrev contained : ℕ → NodeRow → NodeRow
-contained kept r = record r { containing_face = Some kept }
-
 abbrev pub come_in : Freed → List ℕ → ℕ → NodeRow → NodeRow
 come_in freed gone kept r = cond (comes_in freed gone r) (contained kept r) r
 

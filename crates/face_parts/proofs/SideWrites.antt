@@ -1,5 +1,5 @@
 -- Row writes that go through the rows of a table, one after another.
-use Rattle.std.proofs.Common.{◌≡◌, ℕ, ◌+◌, ◌<◌, ◌≤◌, ◌&&◌, ◌||◌, Bool, true, false, cond, List, [], ◌∷◌, ◌++◌, map, Option, Some, None, refl, sym, ap, ◌∙◌, eqb, eqb-true, eq-eqb, arith}
+use Rattle.std.proofs.Common.{◌≡◌, ℕ, ◌+◌, ◌&&◌, ◌||◌, Bool, true, false, cond, List, [], ◌∷◌, ◌++◌, map, Option, Some, None, refl, sym, ap, ◌∙◌, eqb, eqb-true}
 use Rattle.std.specs.Option.{option_eq}
 use Rattle.topo_base.specs.Darts.{same_way}
 use Rattle.topo_base.specs.Point.{Point}
@@ -21,7 +21,7 @@ use Rattle.face_parts.proofs.RowByRow.{AreBelow, ChangeRows, all_rows, change_on
 use Rattle.face_parts.proofs.RowSides.{row_sides}
 
 -- ---- sides
-abbrev with_edges : Tables → List EdgeRow → Tables
+abbrev pub with_edges : Tables → List EdgeRow → Tables
 with_edges t edges = record t { edges = edges }
 
 either_way : (b : Bool) (x y : ℕ) → x ≡ y → cond b x y ≡ x
@@ -59,10 +59,10 @@ all_sides n t part (d ∷ ds) =
     all_sides n (with_edges t (with_change edge_row_id t.edges d.edge (with_side (hand_of d.forward) (part d)))) part ds ∙ ap (with_edges t) (rows_more part d ds t.edges)
 
 -- ---- containing faces
-abbrev with_nodes : Tables → List NodeRow → Tables
+abbrev pub with_nodes : Tables → List NodeRow → Tables
 with_nodes t nodes = record t { nodes = nodes }
 
-abbrev contained : ℕ → NodeRow → NodeRow
+abbrev pub contained : ℕ → NodeRow → NodeRow
 contained g r = record r { containing_face = Some g }
 
 one_node_by : (n : Counters) (t : Tables) (g f : ℕ) (before rest : List NodeRow) (r : NodeRow) (next : ℕ) (b c : Bool) → (b ≡ true → r.containing_face ≡ Some f) → eqb g f ≡ c

@@ -4,7 +4,6 @@ use Rattle.std.proofs.lemmas.Result.{on_ok_weaker}
 use Rattle.drawing.specs.Apply.{apply}
 use Rattle.drawing.specs.Change.{EdgeGoes, FacesJoin, FacesJoinAnew}
 use Rattle.drawing.specs.Edits.{merged}
-use Rattle.drawing.specs.Tables.{Tables}
 use Rattle.face_merge.proofs.Outcomes.{at_alone, at_anew, at_kept, at_left_zero, at_right_zero, tables_named}
 use Rattle.face_merge.proofs.merging.merge_faces.Goals as goal
 

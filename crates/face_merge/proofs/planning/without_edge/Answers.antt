@@ -1,6 +1,5 @@
-use Rattle.std.proofs.Common.{sym, ap, ◌∙◌, [], ◌∷◌, arith}
+use Rattle.std.proofs.Common.{sym, ◌∙◌}
 use Rattle.drawing.specs.Edits.{merged}
-use Rattle.drawing.specs.Outcome.{the_face}
 use Rattle.drawing.specs.Tables.{drawn, drawn_edge}
 use Rattle.face_merge.proofs.EdgeGone.{has_removed, was_removed}
 use Rattle.face_merge.proofs.Outcomes.{accepted}
