@@ -1,4 +1,4 @@
--- Row writes that go through the rows of a table, one after another.
+-- What the writes of sides and of containing faces leave where a face is divided.
 use Rattle.std.proofs.Common.{◌≡◌, ℕ, ◌+◌, ◌&&◌, ◌||◌, Bool, true, false, cond, List, [], ◌∷◌, ◌++◌, map, Option, Some, None, refl, sym, ap, ◌∙◌, eqb, eqb-true}
 use Rattle.std.specs.Option.{option_eq}
 use Rattle.topo_base.specs.Darts.{same_way}
