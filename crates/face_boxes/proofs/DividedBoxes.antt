@@ -43,7 +43,7 @@ pub others_onward : (S T U : Drawing) (f l r : ℕ) → KeepsOthers S T f l r �
 others_onward S T U f l r first then_ = record { same = λ g a b c. then_.same g a b c ∙ first.same g a b c }
 
 -- an edge more that has the face on both sides
-other_way : (a b : ℕ) → eqb a b ≡ false → eqb b a ≡ false
+pub other_way : (a b : ℕ) → eqb a b ≡ false → eqb b a ≡ false
 other_way a b h = grind (arith, nat_tests)
 
 pub others_added : (S T : Drawing) (e : Edge) (f l r : ℕ) → T.edges ≡ S.edges ++ e ∷ [] → e.left_face ≡ f → e.right_face ≡ f → KeepsOthers S T f l r
@@ -72,14 +72,16 @@ side_same f l r old new g is a b c = by (eqb old f) refl
         let was : eqb old g ≡ false = ap (λ k. eqb k g) (eqb-true old f e) ∙ other_way g f a in
         ⊎_elim (λ (h : new ≡ l). ap (λ k. eqb k g) h ∙ other_way g l b ∙ sym was) (λ (h : new ≡ r). ap (λ k. eqb k g) h ∙ other_way g r c ∙ sym was) (is.part e)
 
-lines_same : (k : Edge → Edge) (f l r g : ℕ) (edges : List Edge) → ((x : Edge) → Contains edges x → DividesSides k f l r x) → eqb g f ≡ false → eqb g l ≡ false → eqb g r ≡ false
-    → lines_beside g (map k edges) ≡ lines_beside g edges
-lines_same k f l r g [] each a b c = refl
-lines_same k f l r g (x ∷ edges) each a b c =
+-- the edges have the face on a side as before, and the same lines
+pub record KeepsSide (k : Edge → Edge) (g : ℕ) (x : Edge) : Type 0 where
+  pub line : (k x).geom ≡ x.geom
+  pub side : has_side g (k x) ≡ has_side g x
+
+pub lines_kept : (k : Edge → Edge) (g : ℕ) (edges : List Edge) → ((x : Edge) → Contains edges x → KeepsSide k g x) → lines_beside g (map k edges) ≡ lines_beside g edges
+lines_kept k g [] each = refl
+lines_kept k g (x ∷ edges) each =
     let first = each x (contains_here x edges) in
-    let rest = lines_same k f l r g edges (λ y d. each y (contains_there y x edges d)) a b c in
-    step (k x) x (filter (has_side g) (map k edges)) (filter (has_side g) edges)
-    (λ i. side_same f l r x.left_face (k x).left_face g first.left a b c i || side_same f l r x.right_face (k x).right_face g first.right a b c i) first.line rest
+    step (k x) x (filter (has_side g) (map k edges)) (filter (has_side g) edges) first.side first.line (lines_kept k g edges (λ y d. each y (contains_there y x edges d)))
   where
     step : (y z : Edge) (ys zs : List Edge) → has_side g y ≡ has_side g z → y.geom ≡ z.geom → map line_of ys ≡ map line_of zs
         → map line_of (cond (has_side g y) (y ∷ ys) ys) ≡ map line_of (cond (has_side g z) (z ∷ zs) zs)
@@ -88,6 +90,18 @@ lines_same k f l r g (x ∷ edges) each a b c =
         by : (t : Bool) → map line_of (cond t (y ∷ ys) ys) ≡ map line_of (cond t (z ∷ zs) zs)
         by true = λ i. line i ∷ rest i
         by false = rest
+
+lines_same : (k : Edge → Edge) (f l r g : ℕ) (edges : List Edge) → ((x : Edge) → Contains edges x → DividesSides k f l r x) → eqb g f ≡ false → eqb g l ≡ false → eqb g r ≡ false
+    → lines_beside g (map k edges) ≡ lines_beside g edges
+lines_same k f l r g edges each a b c = lines_kept k g edges each_kept
+  where
+    each_kept : (x : Edge) → Contains edges x → KeepsSide k g x
+    each_kept x d =
+        let divides = each x d in
+        record {
+          line = divides.line;
+          side = λ i. side_same f l r x.left_face (k x).left_face g divides.left a b c i || side_same f l r x.right_face (k x).right_face g divides.right a b c i;
+        }
 
 pub others_divided : (T U : Drawing) (k : Edge → Edge) (f l r : ℕ) → U.edges ≡ map k T.edges → ((x : Edge) → Contains T.edges x → DividesSides k f l r x) → KeepsOthers T U f l r
 others_divided T U k f l r are each = record { same = λ g a b c. ap (lines_beside g) are ∙ lines_same k f l r g T.edges each a b c }
@@ -132,12 +146,14 @@ points_joined : (edges : List Edge) → points_of edges ≡ flat_map (λ (ps : L
 points_joined [] = refl
 points_joined (x ∷ edges) = ap (λ (ps : List Point). x.geom ++ ps) (points_joined edges)
 
-pub row_same : (S U : Drawing) (f l r g : ℕ) → KeepsOthers S U f l r → eqb g f ≡ false → eqb g l ≡ false → eqb g r ≡ false → face_row S g ≡ face_row U g
-row_same S U f l r g keeps a b c =
-    let lines = keeps.same g a b c in
+pub row_beside : (S U : Drawing) (g : ℕ) → lines_beside g U.edges ≡ lines_beside g S.edges → face_row S g ≡ face_row U g
+row_beside S U g lines =
     let points : points_of (filter (has_side g) S.edges) ≡ points_of (filter (has_side g) U.edges) =
     points_joined (filter (has_side g) S.edges) ∙ ap (flat_map (λ (ps : List Point). ps)) (sym lines) ∙ sym (points_joined (filter (has_side g) U.edges)) in
     ap (λ (ps : List Point). record { face_id = g; mbr = cond (g == 0) None (least_box ps) }) points
+
+pub row_same : (S U : Drawing) (f l r g : ℕ) → KeepsOthers S U f l r → eqb g f ≡ false → eqb g l ≡ false → eqb g r ≡ false → face_row S g ≡ face_row U g
+row_same S U f l r g keeps a b c = row_beside S U g (keeps.same g a b c)
 
 -- rows with a new one that has no box
 abbrev pub new_row : ℕ → FaceRow
@@ -146,7 +162,7 @@ new_row f = record { face_id = f; mbr = None }
 abbrev pub with_new : (ℕ → FaceRow) → ℕ → ℕ → FaceRow
 with_new old new g = cond (eqb g new) (new_row g) (old g)
 
-new_rows : (old : ℕ → FaceRow) (new : ℕ) → AreRows old → AreRows (with_new old new)
+pub new_rows : (old : ℕ → FaceRow) (new : ℕ) → AreRows old → AreRows (with_new old new)
 new_rows old new are = record { id = λ g. by g (eqb g new) }
   where
     by : (g : ℕ) (b : Bool) → face_row_id (cond b (new_row g) (old g)) ≡ g
@@ -167,11 +183,11 @@ one_more old fs new other = ap (λ (rs : List FaceRow). rs ++ new_row new ∷ []
     last [] = ap (λ b. cond b (new_row new) (old new) ∷ []) (sym (eq-eqb new new refl))
     last (g ∷ gs) = ap (λ (rs : List FaceRow). with_new old new g ∷ rs) (last gs)
 
-below_differs : (a b : ℕ) → a < b → eqb a b ≡ false
+pub below_differs : (a b : ℕ) → a < b → eqb a b ≡ false
 below_differs a b h = grind (arith, nat_tests)
 
 -- face 0 has no box before and after
-zero_new : (U : Drawing) (old : ℕ → FaceRow) (new : ℕ) → old 0 ≡ face_row U 0 → with_new old new 0 ≡ face_row U 0
+pub zero_new : (U : Drawing) (old : ℕ → FaceRow) (new : ℕ) → old 0 ≡ face_row U 0 → with_new old new 0 ≡ face_row U 0
 zero_new U old new is = by (eqb 0 new)
   where
     by : (b : Bool) → cond b (new_row 0) (old 0) ≡ face_row U 0
@@ -195,7 +211,7 @@ below_in low next f (g ∷ fs) h o =
     by true e first k rest = subst (λ m. m < next) (eqb-true g f e) first
     by false e first k rest = rest k
 
-listed_below : (S : Drawing) (f : ℕ) → InOrder face_id_of 0 S.next_ids.face S.faces → IsTrue (has_face S f) → f < S.next_ids.face
+pub listed_below : (S : Drawing) (f : ℕ) → InOrder face_id_of 0 S.next_ids.face S.faces → IsTrue (has_face S f) → f < S.next_ids.face
 listed_below S f ordered listed = below_in 0 S.next_ids.face f S.faces listed ordered
 
 from_zero : (a : ℕ) → 0 ≤ a
@@ -262,7 +278,7 @@ rows_with_one S = map (face_row S) S.faces ++ new_row S.next_ids.face ∷ []
 not_listed : (S : Drawing) → InOrder face_id_of 0 S.next_ids.face S.faces → (g : ℕ) → Contains S.faces g → eqb g S.next_ids.face ≡ false
 not_listed S ordered g c = below_differs g S.next_ids.face (ids_within face_id_of 0 S.next_ids.face S.faces g ordered c).1
 
-one_is : (S : Drawing) → InOrder face_id_of 0 S.next_ids.face S.faces → rows_with_one S ≡ map (with_new (face_row S) S.next_ids.face) (S.faces ++ S.next_ids.face ∷ [])
+pub one_is : (S : Drawing) → InOrder face_id_of 0 S.next_ids.face S.faces → rows_with_one S ≡ map (with_new (face_row S) S.next_ids.face) (S.faces ++ S.next_ids.face ∷ [])
 one_is S ordered = one_more (face_row S) S.faces S.next_ids.face (not_listed S ordered)
 
 pub one_written : (n : Counters) (t : Tables) (S U : Drawing) (f l r : ℕ) (left right : Option Box4) → InOrder face_id_of 0 S.next_ids.face S.faces → ArePartsOf f S.next_ids.face l r
@@ -294,16 +310,16 @@ one_written n t S U f l r left right ordered parts keeps is_left is_right begun 
         ∙ map_same (chosen (chosen old (face_row U) l) (face_row U) r) (face_row U) (S.faces ++ new ∷ []) (λ g. both g (eqb g r) (eqb g l) refl refl)
 
 -- the face that was listed, and the new one, are there
-there_in : (old : ℕ → FaceRow) (fs : List ℕ) (f : ℕ) → AreRows old → IsTrue (list_any (λ g. g == f) fs) → IsTrue (has_row face_row_id (map old fs) f)
+pub there_in : (old : ℕ → FaceRow) (fs : List ℕ) (f : ℕ) → AreRows old → IsTrue (list_any (λ g. g == f) fs) → IsTrue (has_row face_row_id (map old fs) f)
 there_in old fs f are listed = subst IsTrue (sym (has_mapped old fs f are)) listed
 
-listed_before : (fs gs : List ℕ) (f : ℕ) → IsTrue (list_any (λ g. g == f) fs) → IsTrue (list_any (λ g. g == f) (fs ++ gs))
+pub listed_before : (fs gs : List ℕ) (f : ℕ) → IsTrue (list_any (λ g. g == f) fs) → IsTrue (list_any (λ g. g == f) (fs ++ gs))
 listed_before fs gs f listed = list_any-append (λ g. g == f) fs gs ∙ or_left (list_any (λ g. g == f) fs) (list_any (λ g. g == f) gs) listed
 
-listed_behind : (fs gs : List ℕ) (f : ℕ) → IsTrue (list_any (λ g. g == f) gs) → IsTrue (list_any (λ g. g == f) (fs ++ gs))
+pub listed_behind : (fs gs : List ℕ) (f : ℕ) → IsTrue (list_any (λ g. g == f) gs) → IsTrue (list_any (λ g. g == f) (fs ++ gs))
 listed_behind fs gs f listed = list_any-append (λ g. g == f) fs gs ∙ or_right (list_any (λ g. g == f) fs) (list_any (λ g. g == f) gs) listed
 
-listed_first : (f : ℕ) (gs : List ℕ) → IsTrue (list_any (λ g. g == f) (f ∷ gs))
+pub listed_first : (f : ℕ) (gs : List ℕ) → IsTrue (list_any (λ g. g == f) (f ∷ gs))
 listed_first f gs = or_left (f == f) (list_any (λ g. g == f) gs) (eq-eqb f f refl)
 
 pub one_can : (n : Counters) (t : Tables) (S : Drawing) (f l r : ℕ) (left right : Option Box4) → InOrder face_id_of 0 S.next_ids.face S.faces → ArePartsOf f S.next_ids.face l r → IsTrue (has_face S f)

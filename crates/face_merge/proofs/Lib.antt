@@ -1,3 +1,10 @@
 pub mod DroppedRows
 pub mod EdgeGone
+pub mod Ids
+pub mod FeaturesFollow
+pub mod Renaming
+pub mod Allowing
+pub mod MergedBoxes
+pub mod Stages
+pub mod Outcomes
 pub mod Answering

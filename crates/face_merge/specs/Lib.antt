@@ -1,1 +1,5 @@
-pub mod Ready
+pub mod Sides
+pub mod MergedSides
+pub mod Last
+pub mod Merge
+pub mod Merging

@@ -1,12 +1,21 @@
-//! Plans for removed edges, after ST_RemEdgeModFace and ST_RemEdgeNewFace of SQL/MM Topo-Geo.
+//! Removed edges, after ST_RemEdgeModFace and ST_RemEdgeNewFace of SQL/MM Topo-Geo: an edge goes, and the
+//! faces on its two sides become one.
 //!
-//! It stands on the links of `edge_links`, the faces that become one of `merged_faces`, the conditions of
-//! `edit_conditions` and the drafts and plans of `read_set`. It promises a plan where the edit is accepted
-//! on the excerpt, and else the rule that refuses it, by the rules in their order. To make the writes is
-//! left to whoever keeps the tables.
+//! It stands on the links of `edge_links`, the features of `relation_rows`, the boxes of `face_boxes`, the
+//! laws on sides of `face_parts`, the conditions of `edit_conditions` and the drafts of `read_set`. It
+//! promises the row writes and the reply where the edit is accepted, and else the rule that refuses it, by
+//! the rules in their order. To make a plan of the writes is left to `edit_plan`.
 #![tactic(auto)]
 
+mod following;
+mod last;
+mod merge;
+mod merging;
 mod planning;
+mod removed;
 mod removing;
+mod sides;
+#[cfg(test)]
+mod tests;
 
-pub use planning::plan;
+pub use planning::remove_edge;

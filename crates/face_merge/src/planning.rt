@@ -1,26 +1,25 @@
-// Plans of removed edges.
-ghost use Rattle.std.specs.Prelude.{◌≡◌, ◌==◌, ◌&&◌, not, Contains, IfOk, IsTrue};
+// Removed edges, by their rules.
+ghost use Rattle.std.specs.Prelude.{◌≡◌, ◌==◌, ◌&&◌, not, Contains, IfOk};
 ghost use Rattle.drawing.specs.Drawing.{edge_at};
+ghost use Rattle.drawing.specs.Edits.{merged, remove_edge};
 ghost use Rattle.drawing.specs.IsoEdits.{is_in_feature as is_element_in_feature};
+ghost use Rattle.drawing.specs.PlainInOrder.{IsPlainInOrder};
 ghost use Rattle.drawing.specs.Relations.{edge_type, face_type};
 ghost use Rattle.drawing.specs.RemoveEdge.{have_same_features};
-ghost use Rattle.drawing.specs.Edits.{remove_edge};
-ghost use Rattle.drawing.specs.Step.{step};
 ghost use Rattle.drawing.specs.Tables.{drawn, drawn_edge, tables_of};
-ghost use Rattle.merged_faces.specs.Merging.{with_merged};
-ghost use Rattle.read_set.specs.Answered.{IsAnswered};
-ghost use Rattle.read_set.specs.Planned.{IsEditor};
-ghost use Rattle.read_set.specs.Edited.{AnswersOutcome, IsEdited};
-ghost use Rattle.face_merge.specs.Ready.{IsReady, is_planned};
+ghost use Rattle.read_set.specs.Edited.{AnswersOutcome};
+ghost use Rattle.read_set.specs.Plans.{AreWritesOf};
+ghost use Rattle.read_set.specs.Ready.{IsReady};
 
+use crate::merging::merge_faces;
+use crate::removed::Removed;
 use crate::removing::drop_from_draft;
 use edit_conditions::is_in_feature;
-use merged_faces::{Removed, merge_faces};
-use read_set::{Edited, Plan, PlanEnd};
+use read_set::{EditEnd, Edited, Tried, one_id};
 use relation_rows::have_same_features;
 use std::alloc::Global;
 use std::sync::ledger::Ledger;
-use topo_base::{EdgeId, EdgeRow, Edit, Element, Ids, Memory, Rule, Steps};
+use topo_base::{EdgeId, EdgeRow, Element, Memory, Rule, Steps};
 use topo_tables::{Excerpt, Tables};
 
 /// The types of edges and of faces among the elements of a primitive layer.
@@ -28,7 +27,7 @@ const EDGE_TYPE: u32 = 2;
 
 const FACE_TYPE: u32 = 3;
 
-/// The draft of an edge that may go.
+/// The edge goes, and the faces on its sides become one: it is known that no rule refuses it.
 fn without_edge<L: Ledger>(
     alloc: Global,
     excerpt: &Excerpt,
@@ -37,15 +36,16 @@ fn without_edge<L: Ledger>(
     steps: &mut Steps<L>,
 ) -> Result<Edited, Memory>
     requires ready { IsReady (drawn excerpt.now.rows) }
+    requires plain { IsPlainInOrder (drawn excerpt.now.rows) }
     requires stands { excerpt.now.rows ≡ tables_of (drawn excerpt.now.rows) }
     requires there { Contains excerpt.now.rows.edges edge.now }
-    ensures { IfOk result (λ d. IsEdited (drawn excerpt.now.rows) (with_merged anew (drawn excerpt.now.rows) (drawn_edge edge.now)) d) }
+    ensures { IfOk result (λ d. AreWritesOf (drawn excerpt.now.rows) (merged anew (drawn excerpt.now.rows) (drawn_edge edge.now)) d.writes d.ids) }
 {
     let mut draft = drop_from_draft(alloc, excerpt, edge, steps)?;
     let face = merge_faces(alloc, &mut draft, &Removed::of(edge), anew, steps)?;
-    let mut ids = Ids::new();
-    ids.push(Element::Face(face));
-    Ok(Edited { draft, ids })
+    let ids = one_id(Element::Face(face));
+    let tried = Tried { draft, ids };
+    Ok(tried.into_edited())
 }
 
 /// Whether a feature lists the edge.
@@ -70,88 +70,33 @@ fn is_border_of_features<L: Ledger>(tables: &Tables, edge: &EdgeRow, steps: &mut
         )
 }
 
-/// An edge goes, and the faces on its sides become one, by the rules of ST_RemEdgeModFace, or of
-/// ST_RemEdgeNewFace where the face is to be new: NoEdge, EdgeInFeature, FaceInFeature.
-fn remove_edge<L: Ledger>(
+/// An edge goes, and the faces on its sides become one: the row writes and the face that the reply names,
+/// or the first rule that refuses the edit, of NoEdge, EdgeInFeature and FaceInFeature. So does
+/// ST_RemEdgeModFace, and ST_RemEdgeNewFace where the face is to be new. Nothing is changed.
+pub fn remove_edge<L: Ledger>(
     alloc: Global,
     excerpt: &Excerpt,
     edge: EdgeId,
     anew: bool,
     steps: &mut Steps<L>,
-) -> Result<Edited, PlanEnd>
+) -> Result<Edited, EditEnd>
     requires ready { IsReady (drawn excerpt.now.rows) }
+    requires plain { IsPlainInOrder (drawn excerpt.now.rows) }
     requires stands { excerpt.now.rows ≡ tables_of (drawn excerpt.now.rows) }
-    ensures { AnswersOutcome (drawn excerpt.now.rows) excerpt.now.front (remove_edge anew (drawn excerpt.now.rows) (edge_at (drawn excerpt.now.rows) edge)) result }
+    ensures { AnswersOutcome (drawn excerpt.now.rows) (remove_edge anew (drawn excerpt.now.rows) (edge_at (drawn excerpt.now.rows) edge)) result }
 {
-    let front = excerpt.front();
     let tables = excerpt.tables();
     let Some(row) = tables.edge(edge, steps) else {
-        return Err(PlanEnd::Refused {
-            rule: Rule::NoEdge,
-            front,
-        });
+        return Err(EditEnd::Refused(Rule::NoEdge));
     };
     if is_listed(tables, row, steps) {
-        return Err(PlanEnd::Refused {
-            rule: Rule::EdgeInFeature,
-            front,
-        });
+        return Err(EditEnd::Refused(Rule::EdgeInFeature));
     }
     if is_border_of_features(tables, row, steps) {
-        return Err(PlanEnd::Refused {
-            rule: Rule::FaceInFeature,
-            front,
-        });
+        return Err(EditEnd::Refused(Rule::FaceInFeature));
     }
     match without_edge(alloc, excerpt, row, anew, steps) {
         Ok(edited) => Ok(edited),
-        Err(Memory) => Err(PlanEnd::Memory),
-    }
-}
-
-/// The draft of one of the two edits.
-fn drafted<L: Ledger>(
-    alloc: Global,
-    excerpt: &Excerpt,
-    edit: &Edit,
-    steps: &mut Steps<L>,
-) -> Result<Edited, PlanEnd>
-    requires ready { IsReady (drawn excerpt.now.rows) }
-    requires stands { excerpt.now.rows ≡ tables_of (drawn excerpt.now.rows) }
-    requires planned { IsTrue (is_planned edit.now) }
-    ensures { AnswersOutcome (drawn excerpt.now.rows) excerpt.now.front (step (drawn excerpt.now.rows) edit.now) result }
-{
-    match edit {
-        Edit::RemEdgeModFace { edge } => remove_edge(alloc, excerpt, *edge, false, steps),
-        Edit::RemEdgeNewFace { edge } => remove_edge(alloc, excerpt, *edge, true, steps),
-        _ => unreachable!(),
-    }
-}
-
-/// Plans the edit on the excerpt, by the rules of its function in the standard. Refused comes exactly
-/// where a rule refuses it on the excerpt's drawing: by that rule, with the excerpt's front. Nothing is
-/// changed.
-pub fn plan<L: Ledger>(
-    alloc: Global,
-    excerpt: Excerpt,
-    edit: Edit,
-    editor: u32,
-    steps: &mut Steps<L>,
-) -> Result<Plan, PlanEnd>
-    requires editor { IsEditor editor }
-    requires ready { IsReady (drawn excerpt.rows) }
-    requires stands { excerpt.rows ≡ tables_of (drawn excerpt.rows) }
-    requires planned { IsTrue (is_planned edit) }
-    ensures answer { IsAnswered editor edit excerpt result }
-{
-    match drafted(alloc, &excerpt, &edit, steps) {
-        Ok(edited) => Ok(Plan::of(
-            editor,
-            edit,
-            excerpt,
-            edited.draft.into_writes(),
-            edited.ids,
-        )),
-        Err(end) => Err(end),
+        Err(Memory) => Err(EditEnd::Memory),
     }
 }

@@ -1,4 +1,5 @@
 pub mod RowSides
+pub mod RowByRow
 pub mod SideWrites
 pub mod Starts
 pub mod Lists

@@ -1,7 +1,6 @@
--- Row writes that go through the rows of a table, one after another.
-use Rattle.std.proofs.Common.{◌≡◌, ℕ, ◌+◌, ◌<◌, ◌≤◌, ◌&&◌, ◌||◌, Bool, true, false, cond, List, [], ◌∷◌, ◌++◌, map, Option, Some, None, refl, sym, ap, ◌∙◌, eqb, eqb-true, eq-eqb, arith}
+-- What the writes of sides and of containing faces leave where a face is divided.
+use Rattle.std.proofs.Common.{◌≡◌, ℕ, ◌+◌, ◌&&◌, ◌||◌, Bool, true, false, cond, List, [], ◌∷◌, ◌++◌, map, Option, Some, None, refl, sym, ap, ◌∙◌, eqb, eqb-true}
 use Rattle.std.specs.Option.{option_eq}
-use Rattle.std.proofs.lemmas.Bool.Decides.{nat_tests}
 use Rattle.topo_base.specs.Darts.{same_way}
 use Rattle.topo_base.specs.Point.{Point}
 use Rattle.topo_base.specs.declared.ids.Dart.{Dart}
@@ -15,52 +14,14 @@ use Rattle.drawing.specs.Rows.{with_change}
 use Rattle.face_rings.specs.Border.{has_dart}
 use Rattle.drawing.specs.Tables.{Tables}
 use Rattle.drawing.specs.Writes.{all_written, edge_row_id, with_side}
-use Rattle.drawing.proofs.Ordering.{InOrder, first_of}
-use Rattle.drawing.proofs.WritesInOrder.{written-append}
+use Rattle.drawing.proofs.Ordering.{InOrder}
 use Rattle.face_parts.specs.Sides.{dart_along, hand_of, set_side, part_or, with_parts, in_part, node_write, node_writes}
 use Rattle.face_parts.specs.SidesLaw.{SidesFollow}
+use Rattle.face_parts.proofs.RowByRow.{AreBelow, ChangeRows, all_rows, change_one}
 use Rattle.face_parts.proofs.RowSides.{row_sides}
 
--- some writes, and then others
--- ---- a change of one row among others
-abbrev pub AreBelow : {R : Type 0} → (R → ℕ) → ℕ → List R → Type 0
-AreBelow id n [] = Unit {0}
-AreBelow id n (r ∷ rows) = (id r < n) × AreBelow id n rows
-
-below_wider : {R : Type 0} (id : R → ℕ) (n m : ℕ) (rows : List R) → n ≤ m → AreBelow id n rows → AreBelow id m rows
-below_wider id n m [] more h = tt
-below_wider id n m (r ∷ rows) more h = let first = h.0 in (omega arith, below_wider id n m rows more h.1)
-
-below_push : {R : Type 0} (id : R → ℕ) (n : ℕ) (rows : List R) (r : R) → AreBelow id n rows → id r < n → AreBelow id n (rows ++ r ∷ [])
-below_push id n [] r h small = (small, tt)
-below_push id n (s ∷ rows) r h small = (h.0, below_push id n rows r h.1 small)
-
-smaller : (a n : ℕ) → a < n → eqb a n ≡ false
-smaller a n h = grind (arith, nat_tests)
-
-larger : (a n : ℕ) → n < a → eqb a n ≡ false
-larger a n h = grind (arith, nat_tests)
-
-change_above : {R : Type 0} (id : R → ℕ) (low next : ℕ) (rows : List R) (n : ℕ) (c : R → R) → n < low → InOrder id low next rows → with_change id rows n c ≡ rows
-change_above id low next [] n c small h = refl
-change_above id low next (r ∷ rows) n c small h =
-    let parts = first_of id low next r rows h in
-    let above = parts.0 in
-    ap (λ b. cond b (c r) r ∷ with_change id rows n c) (larger (id r) n (omega arith)) ∙ ap (λ rs. r ∷ rs) (change_above id (id r + 1) next rows n c (omega arith) parts.2)
-
-change_one : {R : Type 0} (id : R → ℕ) (before rest : List R) (e : R) (next : ℕ) (c : R → R) → AreBelow id (id e) before → InOrder id (id e + 1) next rest
-    → with_change id (before ++ e ∷ rest) (id e) c ≡ before ++ c e ∷ rest
-change_one id [] rest e next c below order =
-    ap (λ b. cond b (c e) e ∷ with_change id rest (id e) c) (eq-eqb (id e) (id e) refl) ∙ ap (λ rs. c e ∷ rs) (change_above id (id e + 1) next rest (id e) c (omega arith) order)
-change_one id (r ∷ before) rest e next c below order =
-    ap (λ b. cond b (c r) r ∷ with_change id (before ++ e ∷ rest) (id e) c) (smaller (id r) (id e) below.0) ∙ ap (λ rs. r ∷ rs) (change_one id before rest e next c below.1 order)
-
-regroup : {R : Type 0} (before rest : List R) (e : R) → before ++ e ∷ rest ≡ (before ++ e ∷ []) ++ rest
-regroup [] rest e = refl
-regroup (r ∷ before) rest e = ap (λ rs. r ∷ rs) (regroup before rest e)
-
 -- ---- sides
-abbrev with_edges : Tables → List EdgeRow → Tables
+abbrev pub with_edges : Tables → List EdgeRow → Tables
 with_edges t edges = record t { edges = edges }
 
 either_way : (b : Bool) (x y : ℕ) → x ≡ y → cond b x y ≡ x
@@ -98,10 +59,10 @@ all_sides n t part (d ∷ ds) =
     all_sides n (with_edges t (with_change edge_row_id t.edges d.edge (with_side (hand_of d.forward) (part d)))) part ds ∙ ap (with_edges t) (rows_more part d ds t.edges)
 
 -- ---- containing faces
-abbrev with_nodes : Tables → List NodeRow → Tables
+abbrev pub with_nodes : Tables → List NodeRow → Tables
 with_nodes t nodes = record t { nodes = nodes }
 
-abbrev contained : ℕ → NodeRow → NodeRow
+abbrev pub contained : ℕ → NodeRow → NodeRow
 contained g r = record r { containing_face = Some g }
 
 one_node_by : (n : Counters) (t : Tables) (g f : ℕ) (before rest : List NodeRow) (r : NodeRow) (next : ℕ) (b c : Bool) → (b ≡ true → r.containing_face ≡ Some f) → eqb g f ≡ c
@@ -124,25 +85,19 @@ part_id part f r = by (option_eq eqb r.containing_face (Some f))
     by true = refl
     by false = refl
 
-all_nodes : (n : Counters) (t : Tables) (part : Point → ℕ) (f : ℕ) (before rows : List NodeRow) (low next : ℕ) → AreBelow node_id_of low before → InOrder node_id_of low next rows
-    → all_written n (with_nodes t (before ++ rows)) (node_writes part f rows) ≡ with_nodes t (before ++ map (in_part part f) rows)
-all_nodes n t part f before [] low next below order = refl
-all_nodes n t part f before (r ∷ rows) low next below order =
-    let parts = first_of node_id_of low next r rows order in
-    let above = parts.0 in
-    let r' = in_part part f r in
-    let here = below_wider node_id_of low r.node_id before (omega arith) below in
-    let id = part_id part f r in
-    let next_below = below_push node_id_of (r.node_id + 1) before r' (below_wider node_id_of low (r.node_id + 1) before (omega arith) below) (omega arith) in
-    written-append n (with_nodes t (before ++ r ∷ rows)) (node_write part f r) (node_writes part f rows)
-    ∙ ap (λ (u : Tables). all_written n u (node_writes part f rows)) (one_node_by n t (part r.geom) f before rows r next _ _ (given r.containing_face f) refl here parts.2)
-    ∙ ap (λ (ns : List NodeRow). all_written n (with_nodes t ns) (node_writes part f rows)) (regroup before rows r')
-    ∙ all_nodes n t part f (before ++ r' ∷ []) rows (r.node_id + 1) next next_below parts.2
-    ∙ ap (with_nodes t) (sym (regroup before (map (in_part part f) rows) r'))
+nodes_change : (n : Counters) (t : Tables) (part : Point → ℕ) (f : ℕ) → ChangeRows node_id_of (with_nodes t) n (node_write part f) (in_part part f)
+nodes_change n t part f = record {
+  keeps = part_id part f;
+  made = λ before rest r next below order. one_node_by n t (part r.geom) f before rest r next _ _ (given r.containing_face f) refl below order;
+}
+
+all_nodes : (n : Counters) (t : Tables) (part : Point → ℕ) (f : ℕ) (rows : List NodeRow) (low next : ℕ) → InOrder node_id_of low next rows
+    → all_written n (with_nodes t rows) (node_writes part f rows) ≡ with_nodes t (map (in_part part f) rows)
+all_nodes n t part f rows low next order = all_rows node_id_of (with_nodes t) n (node_write part f) (in_part part f) [] rows low next (nodes_change n t part f) tt order
 
 pub sides_follow : SidesFollow
 sides_follow = record {
   links = row_sides;
   edges = all_sides;
-  nodes = λ n t part f low next order. all_nodes n t part f [] t.nodes low next tt (record { test = order });
+  nodes = λ n t part f low next order. all_nodes n t part f t.nodes low next (record { test = order });
 }

@@ -1,4 +1,0 @@
-use Rattle.merged_faces.proofs.tests.both_sides_change.Given as goal
-
-abbrev pub ghosts-both_sides : goal.ghosts-both_sides
-ghosts-both_sides g a = record { name = a.blank.name; parts = a.blank.parts }

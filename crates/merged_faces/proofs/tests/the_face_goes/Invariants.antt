@@ -1,4 +1,0 @@
-use Rattle.merged_faces.proofs.tests.the_face_goes.Given as goal
-
-abbrev pub ghosts-last_of : goal.ghosts-last_of
-ghosts-last_of g a = record { name = a.blank.name; parts = a.blank.parts }
