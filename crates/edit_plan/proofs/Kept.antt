@@ -5,7 +5,7 @@ use Rattle.topo_base.specs.declared.element.Element.{Element}
 use Rattle.topo_base.specs.declared.write.RowWrite.{RowWrite}
 use Rattle.drawing.specs.Drawing.{nothing_drawn}
 use Rattle.drawing.specs.Accepted.{keeps_limits}
-use Rattle.drawing.specs.Replay.{after}
+use Rattle.drawing.specs.Replay.{after, drawing_of}
 use Rattle.drawing.specs.Tables.{Tables, tables_of, drawn}
 use Rattle.drawing.specs.Writable.{CanWriteAll}
 use Rattle.drawing.specs.Writes.{all_written}
@@ -14,7 +14,6 @@ use Rattle.topo_tables.specs.Taken.{Taken}
 use Rattle.read_set.specs.Answered.{IsAnswered}
 use Rattle.read_set.specs.Planned.{Planned}
 use Rattle.read_set.specs.Plans.{IsPlanFor}
-use Rattle.iso_edits.proofs.Kept as isolated
 use Rattle.reference_laws.specs.Referenced.{IsReferenced}
 use Rattle.reference_laws.proofs.ReferencesStaying.{references_stay}
 use Rattle.edit_plan.specs.Ready.{HasDrawing}
@@ -26,11 +25,12 @@ nothing_has t is = subst HasDrawing (sym is) (record { stands = refl; kept = ref
 -- ---- the writes of a plan
 -- they may be made on the tables themselves
 pub writable_on : (t : Tables) (e : Edit) (ws : List RowWrite) (ids : List Element) → HasDrawing t → IsPlanFor (drawn t) e ws ids → CanWriteAll t.next_ids t ws
-writable_on t e ws ids h plan = isolated.writable_on t e ws ids h.stands plan
+writable_on t e ws ids h plan = subst (λ (u : Tables). CanWriteAll t.next_ids u ws) (sym h.stands) plan.writable
 
 -- and leave those of the drawing after
 pub drawn_after : (t u : Tables) (e : Edit) (ws : List RowWrite) (ids : List Element) → HasDrawing t → IsPlanFor (drawn t) e ws ids → u ≡ all_written t.next_ids t ws → u ≡ tables_of (after (drawn t) e)
-drawn_after t u e ws ids h plan made = isolated.drawn_after t u e ws ids h.stands plan made
+drawn_after t u e ws ids h plan made =
+    made ∙ ap (λ (v : Tables). all_written t.next_ids v ws) h.stands ∙ plan.tables ∙ ap tables_of (sym (ap (drawing_of (drawn t)) plan.accepted))
 
 pub plan_kept : (t u : Tables) (e : Edit) (ws : List RowWrite) (ids : List Element) → IsTrue (keeps_limits e) → HasDrawing t → IsPlanFor (drawn t) e ws ids → u ≡ all_written t.next_ids t ws → HasDrawing u
 plan_kept t u e ws ids limits h plan made =

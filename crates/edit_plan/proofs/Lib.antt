@@ -1,2 +1,1 @@
-pub mod Readying
 pub mod Kept

@@ -1,10 +1,10 @@
-//! The planner of each edit: it takes an edit to the crate that plans it.
+//! The plan of each edit.
 //!
-//! It stands on `iso_edits`, for the edits of isolated nodes and edges, on `face_split`, for added edges,
-//! on `face_merge`, for removed edges, on `edge_heal`, for split and healed edges, on `layer_tree`, for layers, on
-//! `topogeom_points`, for features, and on the laws of `reference_laws`. It promises a plan where the edit is
-//! accepted on the excerpt, and else the rule that refuses it; and that tables on which the writes of a
-//! plan were made may be planned on again. To make the writes is left to whoever keeps the tables.
+//! It matches the edit once, and calls what the situation is called: `iso_edits` for isolated nodes and edges,
+//! `face_split` for added edges, `face_merge` for removed ones, `edge_split` and `edge_heal` for split and healed ones,
+//! `topogeom_points` for layers and features. It promises a plan where the edit is accepted on the excerpt, and else
+//! the rule that refuses it; and, by the laws of `reference_laws`, that tables on which the writes of a plan were made
+//! may be planned on again. To make the writes is left to whoever keeps the tables.
 #![tactic(auto)]
 
 mod planning;

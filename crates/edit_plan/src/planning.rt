@@ -1,70 +1,71 @@
+// The plan of each edit.
 ghost use Rattle.std.specs.Prelude.{◌≡◌};
 ghost use Rattle.read_set.specs.Answered.{IsAnswered};
+ghost use Rattle.read_set.specs.Edited.{AnswersOutcome};
 ghost use Rattle.read_set.specs.Planned.{IsEditor};
+ghost use Rattle.read_set.specs.Ready.{IsReady};
+ghost use Rattle.ring_laws.specs.Ringed.{IsRinged};
+ghost use Rattle.drawing.specs.Step.{step};
 ghost use Rattle.drawing.specs.Tables.{drawn, tables_of};
-ghost use Rattle.edit_plan.specs.Ready.{IsReady, adds_edge, adds_layer, changes_features, removes_edge, splits_or_heals};
 
-use read_set::{Plan, PlanEnd};
+use edge_heal::heal_edges;
+use edge_split::split_edge;
+use face_merge::remove_edge;
+use face_split::add_edge;
+use iso_edits::{add_iso_edge, add_iso_node, move_iso_node, remove_iso_edge, remove_iso_node};
+use read_set::{EditEnd, Edited, Plan, PlanEnd};
 use std::alloc::Global;
 use std::sync::ledger::Ledger;
-use topo_base::{Edit, Steps};
+use topo_base::{Edit, Pair, Steps};
 use topo_tables::Excerpt;
+use topogeom_points::{add_element, add_layer, create, drop_feature, remove_element};
 
-/// Whether the edit adds an edge that may have other edges at its ends.
-fn adds_edge(edit: &Edit) -> bool
-    ensures { result ≡ adds_edge edit.now }
+/// What the edit does, by the rules of its function in the standard.
+fn edited<L: Ledger>(
+    alloc: Global,
+    excerpt: &Excerpt,
+    edit: &Edit,
+    steps: &mut Steps<L>,
+) -> Result<Edited, EditEnd>
+    requires ready { IsReady (drawn excerpt.now.rows) }
+    requires ringed { IsRinged (drawn excerpt.now.rows) }
+    requires stands { excerpt.now.rows ≡ tables_of (drawn excerpt.now.rows) }
+    ensures { AnswersOutcome (drawn excerpt.now.rows) (step (drawn excerpt.now.rows) edit.now) result }
 {
+    let on = excerpt.tables();
     match edit {
-        Edit::AddEdgeModFace { .. } => true,
-        Edit::AddEdgeNewFaces { .. } => true,
-        _ => false,
-    }
-}
-
-/// Whether the edit removes an edge that may have other edges at its ends.
-fn removes_edge(edit: &Edit) -> bool
-    ensures { result ≡ removes_edge edit.now }
-{
-    match edit {
-        Edit::RemEdgeModFace { .. } => true,
-        Edit::RemEdgeNewFace { .. } => true,
-        _ => false,
-    }
-}
-
-/// Whether the edit splits an edge, or heals two.
-fn splits_or_heals(edit: &Edit) -> bool
-    ensures { result ≡ splits_or_heals edit.now }
-{
-    match edit {
-        Edit::ModEdgeSplit { .. } => true,
-        Edit::NewEdgesSplit { .. } => true,
-        Edit::ModEdgeHeal { .. } => true,
-        Edit::NewEdgeHeal { .. } => true,
-        _ => false,
-    }
-}
-
-/// Whether the edit adds a layer.
-fn adds_layer(edit: &Edit) -> bool
-    ensures { result ≡ adds_layer edit.now }
-{
-    match edit {
-        Edit::AddLayer { .. } => true,
-        _ => false,
-    }
-}
-
-/// Whether the edit changes features or what they list.
-fn changes_features(edit: &Edit) -> bool
-    ensures { result ≡ changes_features edit.now }
-{
-    match edit {
-        Edit::CreateTopoGeom { .. } => true,
-        Edit::AddElement { .. } => true,
-        Edit::RemElement { .. } => true,
-        Edit::DropFeature { .. } => true,
-        _ => false,
+        Edit::AddIsoNode { face, geom } => add_iso_node(alloc, on, *face, *geom, steps),
+        Edit::MoveIsoNode { node, geom } => move_iso_node(alloc, on, *node, *geom, steps),
+        Edit::RemoveIsoNode { node } => remove_iso_node(alloc, on, *node, steps),
+        Edit::AddIsoEdge { start, end, line } => add_iso_edge(alloc, on, *start, *end, line, steps),
+        Edit::RemoveIsoEdge { edge } => remove_iso_edge(alloc, on, *edge, steps),
+        Edit::AddEdgeModFace { start, end, line } => {
+            add_edge(alloc, excerpt, *start, *end, line, false, steps)
+        }
+        Edit::AddEdgeNewFaces { start, end, line } => {
+            add_edge(alloc, excerpt, *start, *end, line, true, steps)
+        }
+        Edit::RemEdgeModFace { edge } => remove_edge(alloc, excerpt, *edge, false, steps),
+        Edit::RemEdgeNewFace { edge } => remove_edge(alloc, excerpt, *edge, true, steps),
+        Edit::ModEdgeSplit { edge, geom } => split_edge(alloc, excerpt, *edge, *geom, false, steps),
+        Edit::NewEdgesSplit { edge, geom } => split_edge(alloc, excerpt, *edge, *geom, true, steps),
+        Edit::ModEdgeHeal { edge, other } => {
+            heal_edges(alloc, excerpt, *edge, *other, false, steps)
+        }
+        Edit::NewEdgeHeal { edge, other } => heal_edges(alloc, excerpt, *edge, *other, true, steps),
+        Edit::AddLayer { name, kind, child } => add_layer(alloc, on, name, *kind, *child, steps),
+        Edit::CreateTopoGeom { layer, elements } => {
+            create(alloc, on, *layer, elements.pairs(), steps)
+        }
+        Edit::AddElement { feature, id, element_type } => {
+            let pair = Pair { id: *id, element_type: *element_type };
+            add_element(alloc, on, *feature, pair, steps)
+        }
+        Edit::RemElement { feature, id, element_type } => {
+            let pair = Pair { id: *id, element_type: *element_type };
+            remove_element(alloc, on, *feature, pair, steps)
+        }
+        Edit::DropFeature { feature } => drop_feature(alloc, on, *feature, steps),
     }
 }
 
@@ -80,20 +81,16 @@ pub fn plan<L: Ledger>(
 ) -> Result<Plan, PlanEnd>
     requires editor { IsEditor editor }
     requires ready { IsReady (drawn excerpt.rows) }
+    requires ringed { IsRinged (drawn excerpt.rows) }
     requires stands { excerpt.rows ≡ tables_of (drawn excerpt.rows) }
     ensures answer { IsAnswered editor edit excerpt result }
 {
-    if adds_edge(&edit) {
-        face_split::plan(alloc, excerpt, edit, editor, steps)
-    } else if removes_edge(&edit) {
-        face_merge::plan(alloc, excerpt, edit, editor, steps)
-    } else if splits_or_heals(&edit) {
-        edge_heal::plan(alloc, excerpt, edit, editor, steps)
-    } else if adds_layer(&edit) {
-        layer_tree::plan(alloc, excerpt, edit, editor, steps)
-    } else if changes_features(&edit) {
-        topogeom_points::plan(alloc, excerpt, edit, editor, steps)
-    } else {
-        iso_edits::plan(alloc, excerpt, edit, editor, steps)
+    match edited(alloc, &excerpt, &edit, steps) {
+        Ok(edited) => Ok(Plan::of(editor, edit, excerpt, edited.writes, edited.ids)),
+        Err(EditEnd::Refused(rule)) => Err(PlanEnd::Refused {
+            rule,
+            front: excerpt.front(),
+        }),
+        Err(EditEnd::Memory) => Err(PlanEnd::Memory),
     }
 }

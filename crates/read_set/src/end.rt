@@ -34,3 +34,14 @@ pub enum PlanEnd {
     #[error("out of memory")]
     Memory,
 }
+
+impl From<Memory> for PlanEnd {
+    ghost use Rattle.std.specs.Prelude.{◌≡◌};
+    ghost use Rattle.read_set.specs.declared.end.PlanEnd.TheVariants.{Memory};
+
+    ghost from_gives = { λ _ e. e ≡ Memory };
+
+    fn from(_: Memory) -> Self {
+        PlanEnd::Memory
+    }
+}

@@ -1,6 +1,7 @@
 // An edit is planned on a copy of the tables.
 ghost use Rattle.std.specs.Prelude.{◌≡◌, IfOk, IfErr};
-ghost use Rattle.edit_plan.specs.Ready.{IsReady};
+ghost use Rattle.read_set.specs.Ready.{IsReady};
+ghost use Rattle.ring_laws.specs.Ringed.{IsRinged};
 ghost use Rattle.read_set.specs.Planned.{IsEditor};
 ghost use Rattle.read_set.specs.Plans.{IsPlanFor};
 ghost use Rattle.drawing.specs.Replay.{answer_of};
@@ -25,6 +26,7 @@ pub(crate) fn plan_on<L: Ledger>(
 ) -> Result<Plan, PlanEnd>
     requires editor { IsEditor editor }
     requires ready { IsReady (drawn tables.now.rows) }
+    requires ringed { IsRinged (drawn tables.now.rows) }
     requires stands { tables.now.rows ≡ tables_of (drawn tables.now.rows) }
     ensures edit { IfOk result (λ p. (p.editor ≡ editor) × (p.edit ≡ edit)) }
     ensures planned { IfOk result (λ p. IsPlanFor (drawn tables.now.rows) edit p.writes p.ids) }

@@ -1,5 +1,6 @@
 use Rattle.std.proofs.Common.{◌≡◌, sym, ap, subst, ◌∙◌}
-use Rattle.edit_plan.specs.Ready.{IsReady}
+use Rattle.read_set.specs.Ready.{IsReady}
+use Rattle.ring_laws.specs.Ringed.{IsRinged}
 use Rattle.drawing.specs.Tables.{Tables, tables_of, drawn}
 use Rattle.topo_tables.specs.Taken.{Taken}
 use Rattle.topo_desk.proofs.PlannedOn.{answered_edit, answered_plan, answered_refused}
@@ -9,6 +10,11 @@ pub plan-requires-clause-ready : goal.plan-requires-clause-ready
 plan-requires-clause-ready g c =
     let rows : c.of-excerpt.result.rows ≡ c.args.tables.now.rows = ap (λ (x : Taken). x.rows) c.of-excerpt.ensures ∙ c.in_ok-copied.ensures in
     subst (λ (t : Tables). IsReady (drawn t)) (sym rows) c.requires.ready
+
+pub plan-requires-clause-ringed : goal.plan-requires-clause-ringed
+plan-requires-clause-ringed g c =
+    let rows : c.of-excerpt.result.rows ≡ c.args.tables.now.rows = ap (λ (x : Taken). x.rows) c.of-excerpt.ensures ∙ c.in_ok-copied.ensures in
+    subst (λ (t : Tables). IsRinged (drawn t)) (sym rows) c.requires.ringed
 
 pub plan-requires-clause-stands : goal.plan-requires-clause-stands
 plan-requires-clause-stands g c =

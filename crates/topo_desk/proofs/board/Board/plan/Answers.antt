@@ -1,8 +1,9 @@
 use Rattle.std.proofs.Common.{ap, sym, subst, ◌∙◌}
 use Rattle.drawing.specs.Tables.{tables_of}
 use Rattle.topo_desk.specs.Boarded.{Boarded, bounds_of}
-use Rattle.edit_plan.specs.Ready.{IsReady}
-use Rattle.topo_desk.proofs.Entering.{legal_ready}
+use Rattle.read_set.specs.Ready.{IsReady}
+use Rattle.ring_laws.specs.Ringed.{IsRinged}
+use Rattle.topo_desk.proofs.Entering.{legal_ready, legal_ringed}
 use Rattle.topo_desk.proofs.Boards.{drawing_is, planned_on, refused_on}
 use Rattle.topo_desk.proofs.board.Board.plan.Goals as goal
 
@@ -10,6 +11,11 @@ pub plan_on-requires-clause-ready : goal.plan_on-requires-clause-ready
 plan_on-requires-clause-ready g c =
     let b = c.self.inside in
     subst IsReady (sym (drawing_is b.tables.rows b.history.entries c.self.invariant.stands)) (legal_ready (bounds_of b.limits) b.history.entries b.limits.ids c.self.invariant.legal)
+
+pub plan_on-requires-clause-ringed : goal.plan_on-requires-clause-ringed
+plan_on-requires-clause-ringed g c =
+    let b = c.self.inside in
+    subst IsRinged (sym (drawing_is b.tables.rows b.history.entries c.self.invariant.stands)) (legal_ringed (bounds_of b.limits) b.history.entries c.self.invariant.legal)
 
 pub plan_on-requires-clause-stands : goal.plan_on-requires-clause-stands
 plan_on-requires-clause-stands g c =
