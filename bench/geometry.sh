@@ -6,7 +6,7 @@ top=$(cd "$(dirname "$0")/.." && pwd)
 work=$(mktemp -d)
 trap 'rm -rf "$work"' EXIT
 (cd "$top" && git ls-files crates crates.txt HANDLES | grep -v must-fail | tar cf - -T -) | tar xf - -C "$work"
-echo 'geometry_bench: topo_base topo_model grid_segments grid_lines' >> "$work/crates.txt"
+echo 'geometry_bench: topo_base plane grid_segments grid_lines' >> "$work/crates.txt"
 bench="$work/crates/geometry_bench"
 mkdir -p "$bench/src" "$bench/specs" "$bench/proofs/relate_many" "$bench/proofs/simple_many"
 : > "$bench/specs/Lib.antt"

@@ -1,5 +1,5 @@
 #!/usr/bin/env python3
-"""Runs a script as `./topo apply` does on a new journal, by the definitions in crates/topo_model/specs, as an oracle for tests.
+"""Runs a script as `./topo apply` does on a new journal, by the definitions in crates/drawing/specs, as an oracle for tests.
 
 It reads a good script from standard input and prints the replies and the final tables. Between two edits it keeps
 the drawing alone: nodes with their containing faces, edges with their ends, sides and lines, the faces and the next
