@@ -26,11 +26,11 @@ use Rattle.read_set.specs.Drafted.{IsDraftOf}
 use Rattle.relation_rows.proofs.KnownFeatures.{known_features}
 use Rattle.ring_laws.specs.Ringed.{IsRinged}
 use Rattle.ring_laws.proofs.Known.{all_out}
-use Rattle.read_set.specs.Edited.{IsEdited}
-use Rattle.edge_heal.specs.Ready.{IsReady}
+use Rattle.read_set.specs.Edited.{IsTried}
+use Rattle.read_set.specs.Ready.{IsReady}
 use Rattle.edge_heal.specs.Splitting.{HasFeaturesOf, IsCut, followed_rows, mod_done, new_done, split_mod_in, split_new_in, split_rows}
 use Rattle.edge_heal.specs.Writes.{mod_writes, new_writes}
-use Rattle.read_set.specs.declared.edited.Edited.{Edited}
+use Rattle.read_set.specs.declared.edited.Tried.{Tried}
 use Rattle.edge_heal.proofs.SplitAllowed.{ends_known, mod_can, new_can}
 use Rattle.edge_heal.proofs.SplitBoxes.{boxes_kept}
 use Rattle.edge_heal.proofs.SplitEdges.{cut_row, cut_there, mod_is, new_is}
@@ -65,38 +65,38 @@ mod_list : (S : Drawing) (rows : List EdgeRow) (r : EdgeRow) (p : Point) (n new 
     → ws ≡ mod_writes (tables_of S).edges (row_of S (drawn_edge r)) p S.next_ids.node S.next_ids.edge
 mod_list S rows r p n new ws cut same node edge is = let row = cut_row S r p cut in is ∙ (λ i. mod_writes (same i) (row i) p (node i) (edge i))
 
-pub mod_may : (S : Drawing) (t : Tables) (rows : List EdgeRow) (r : EdgeRow) (p : Point) (n new : ℕ) (ws : List RowWrite) → IsReady S → IsCut S r p → t ≡ tables_of S → rows ≡ (tables_of S).edges → n ≡ S.next_ids.node → new ≡ S.next_ids.edge
+pub mod_may : (S : Drawing) (t : Tables) (rows : List EdgeRow) (r : EdgeRow) (p : Point) (n new : ℕ) (ws : List RowWrite) → IsReady S → IsRinged S → IsCut S r p → t ≡ tables_of S → rows ≡ (tables_of S).edges → n ≡ S.next_ids.node → new ≡ S.next_ids.edge
     → ws ≡ mod_writes rows r p n new → CanWriteAll t.next_ids t ws
-mod_may S t rows r p n new ws ready cut stands same node edge is =
+mod_may S t rows r p n new ws ready ringed cut stands same node edge is =
     let e = drawn_edge r in
-    let can = mod_can S e p _ _ (mod_is S r p ready.ringed cut) (ends_known S e ready.ringed.edges (cut_there S r p cut)) ready.node_more ready.edge_more in
+    let can = mod_can S e p _ _ (mod_is S r p ringed cut) (ends_known S e ringed.edges (cut_there S r p cut)) ready.node_more ready.edge_more in
     let on_list = subst (λ (vs : List RowWrite). CanWriteAll S.next_ids (tables_of S) vs) (sym (mod_list S rows r p n new ws cut same node edge is)) can in
     subst (λ (u : Tables). CanWriteAll u.next_ids u ws) (sym stands) on_list
 
-pub mod_rows : (S : Drawing) (t u : Tables) (rows : List EdgeRow) (r : EdgeRow) (p : Point) (n new : ℕ) (ws : List RowWrite) → IsReady S → IsCut S r p → t ≡ tables_of S → rows ≡ (tables_of S).edges → n ≡ S.next_ids.node → new ≡ S.next_ids.edge
+pub mod_rows : (S : Drawing) (t u : Tables) (rows : List EdgeRow) (r : EdgeRow) (p : Point) (n new : ℕ) (ws : List RowWrite) → IsRinged S → IsCut S r p → t ≡ tables_of S → rows ≡ (tables_of S).edges → n ≡ S.next_ids.node → new ≡ S.next_ids.edge
     → ws ≡ mod_writes rows r p n new → u ≡ all_written t.next_ids t ws → u ≡ split_rows S (split_mod_in S (drawn_edge r) p)
-mod_rows S t u rows r p n new ws ready cut stands same node edge is made =
+mod_rows S t u rows r p n new ws ringed cut stands same node edge is made =
     made ∙ ap (λ (v : Tables). all_written v.next_ids v ws) stands ∙ ap (all_written S.next_ids (tables_of S)) (mod_list S rows r p n new ws cut same node edge is)
-    ∙ mod_written S (drawn_edge r) p _ _ (mod_is S r p ready.ringed cut)
+    ∙ mod_written S (drawn_edge r) p _ _ (mod_is S r p ringed cut)
 
 -- ---- newedgessplit
 new_list : (S : Drawing) (rows : List EdgeRow) (r : EdgeRow) (p : Point) (n one two : ℕ) (ws : List RowWrite) → IsCut S r p → rows ≡ (tables_of S).edges → n ≡ S.next_ids.node → one ≡ S.next_ids.edge → two ≡ S.next_ids.edge + 1
     → ws ≡ new_writes rows r p n one two → ws ≡ new_writes (tables_of S).edges (row_of S (drawn_edge r)) p S.next_ids.node S.next_ids.edge (S.next_ids.edge + 1)
 new_list S rows r p n one two ws cut same node first second is = let row = cut_row S r p cut in is ∙ (λ i. new_writes (same i) (row i) p (node i) (first i) (second i))
 
-pub new_may : (S : Drawing) (t : Tables) (rows : List EdgeRow) (r : EdgeRow) (p : Point) (n one two : ℕ) (ws : List RowWrite) → IsReady S → IsCut S r p → t ≡ tables_of S → rows ≡ (tables_of S).edges → n ≡ S.next_ids.node → one ≡ S.next_ids.edge
+pub new_may : (S : Drawing) (t : Tables) (rows : List EdgeRow) (r : EdgeRow) (p : Point) (n one two : ℕ) (ws : List RowWrite) → IsReady S → IsRinged S → IsCut S r p → t ≡ tables_of S → rows ≡ (tables_of S).edges → n ≡ S.next_ids.node → one ≡ S.next_ids.edge
     → two ≡ S.next_ids.edge + 1 → ws ≡ new_writes rows r p n one two → CanWriteAll t.next_ids t ws
-new_may S t rows r p n one two ws ready cut stands same node first second is =
+new_may S t rows r p n one two ws ready ringed cut stands same node first second is =
     let e = drawn_edge r in
-    let can = new_can S e p _ _ (new_is S r p ready.ringed cut) (ends_known S e ready.ringed.edges (cut_there S r p cut)) ready.node_more ready.edge_more in
+    let can = new_can S e p _ _ (new_is S r p ringed cut) (ends_known S e ringed.edges (cut_there S r p cut)) ready.node_more ready.edge_more in
     let on_list = subst (λ (vs : List RowWrite). CanWriteAll S.next_ids (tables_of S) vs) (sym (new_list S rows r p n one two ws cut same node first second is)) can in
     subst (λ (u : Tables). CanWriteAll u.next_ids u ws) (sym stands) on_list
 
-pub new_rows : (S : Drawing) (t u : Tables) (rows : List EdgeRow) (r : EdgeRow) (p : Point) (n one two : ℕ) (ws : List RowWrite) → IsReady S → IsCut S r p → t ≡ tables_of S → rows ≡ (tables_of S).edges → n ≡ S.next_ids.node
+pub new_rows : (S : Drawing) (t u : Tables) (rows : List EdgeRow) (r : EdgeRow) (p : Point) (n one two : ℕ) (ws : List RowWrite) → IsRinged S → IsCut S r p → t ≡ tables_of S → rows ≡ (tables_of S).edges → n ≡ S.next_ids.node
     → one ≡ S.next_ids.edge → two ≡ S.next_ids.edge + 1 → ws ≡ new_writes rows r p n one two → u ≡ all_written t.next_ids t ws → u ≡ split_rows S (split_new_in S (drawn_edge r) p)
-new_rows S t u rows r p n one two ws ready cut stands same node first second is made =
+new_rows S t u rows r p n one two ws ringed cut stands same node first second is made =
     made ∙ ap (λ (v : Tables). all_written v.next_ids v ws) stands ∙ ap (all_written S.next_ids (tables_of S)) (new_list S rows r p n one two ws cut same node first second is)
-    ∙ new_written S (drawn_edge r) p _ _ (new_is S r p ready.ringed cut)
+    ∙ new_written S (drawn_edge r) p _ _ (new_is S r p ringed cut)
 
 -- ---- features
 pub has_features : (S T : Drawing) (t : Tables) (edge : ℕ) → IsReady S → T.relations ≡ S.relations → T.features ≡ S.features → T.layers ≡ S.layers → t ≡ split_rows S T → HasFeaturesOf t edge
@@ -106,31 +106,31 @@ has_features S T t edge ready relations features layers is =
     (listed ∙ (λ i. listing (lists_element (record S { layers = layers i }) edge_type edge) (record S { relations = relations i }))))
 
 -- ---- all is done
-mod_followed : (S : Drawing) (r : EdgeRow) (p : Point) → IsReady S → IsCut S r p → followed_rows (split_rows S (split_mod_in S (drawn_edge r) p)) r.edge_id r.edge_id S.next_ids.edge ≡ tables_of (mod_done S (drawn_edge r) p).drawing
-mod_followed S r p ready cut =
-    let g = mod_is S r p ready.ringed cut in
+mod_followed : (S : Drawing) (r : EdgeRow) (p : Point) → IsRinged S → IsCut S r p → followed_rows (split_rows S (split_mod_in S (drawn_edge r) p)) r.edge_id r.edge_id S.next_ids.edge ≡ tables_of (mod_done S (drawn_edge r) p).drawing
+mod_followed S r p ringed cut =
+    let g = mod_is S r p ringed cut in
     let boxes = boxes_kept S (mod_done S (drawn_edge r) p).drawing (drawn_edge r) p r.edge_id S.next_ids.edge S.faces g.lines g.split in
     λ i. record (tables_of (mod_done S (drawn_edge r) p).drawing) { faces = boxes i }
 
-new_followed : (S : Drawing) (r : EdgeRow) (p : Point) → IsReady S → IsCut S r p → followed_rows (split_rows S (split_new_in S (drawn_edge r) p)) r.edge_id S.next_ids.edge (S.next_ids.edge + 1) ≡ tables_of (new_done S (drawn_edge r) p).drawing
-new_followed S r p ready cut =
-    let g = new_is S r p ready.ringed cut in
+new_followed : (S : Drawing) (r : EdgeRow) (p : Point) → IsRinged S → IsCut S r p → followed_rows (split_rows S (split_new_in S (drawn_edge r) p)) r.edge_id S.next_ids.edge (S.next_ids.edge + 1) ≡ tables_of (new_done S (drawn_edge r) p).drawing
+new_followed S r p ringed cut =
+    let g = new_is S r p ringed cut in
     let boxes = boxes_kept S (new_done S (drawn_edge r) p).drawing (drawn_edge r) p S.next_ids.edge (S.next_ids.edge + 1) S.faces g.lines g.split in
     λ i. record (tables_of (new_done S (drawn_edge r) p).drawing) { faces = boxes i }
 
-pub mod_edited : (S : Drawing) (r : EdgeRow) (p : Point) (t : Tables) (d : Edited) (edge n first second : ℕ) → IsReady S → IsCut S r p → IsDraftOf S d.draft → t ≡ split_rows S (split_mod_in S (drawn_edge r) p)
-    → edge ≡ r.edge_id → n ≡ S.next_ids.node → first ≡ r.edge_id → second ≡ S.next_ids.edge → d.draft.rows ≡ followed_rows t edge first second → d.ids ≡ the_node n ∷ the_edge second ∷ [] → IsEdited S (mod_done S (drawn_edge r) p) d
-mod_edited S r p t d edge n first second ready cut draft rows own node one two followed ids = record {
+pub mod_edited : (S : Drawing) (r : EdgeRow) (p : Point) (t : Tables) (d : Tried) (edge n first second : ℕ) → IsRinged S → IsCut S r p → IsDraftOf S d.draft → t ≡ split_rows S (split_mod_in S (drawn_edge r) p)
+    → edge ≡ r.edge_id → n ≡ S.next_ids.node → first ≡ r.edge_id → second ≡ S.next_ids.edge → d.draft.rows ≡ followed_rows t edge first second → d.ids ≡ the_node n ∷ the_edge second ∷ [] → IsTried S (mod_done S (drawn_edge r) p) d
+mod_edited S r p t d edge n first second ringed cut draft rows own node one two followed ids = record {
   draft = draft;
-  rows = followed ∙ (λ i. followed_rows (rows i) (own i) (one i) (two i)) ∙ mod_followed S r p ready cut;
+  rows = followed ∙ (λ i. followed_rows (rows i) (own i) (one i) (two i)) ∙ mod_followed S r p ringed cut;
   ids = sym (ids ∙ (λ i. the_node (node i) ∷ the_edge (two i) ∷ []));
 }
 
-pub new_edited : (S : Drawing) (r : EdgeRow) (p : Point) (t : Tables) (d : Edited) (edge n first second : ℕ) → IsReady S → IsCut S r p → IsDraftOf S d.draft → t ≡ split_rows S (split_new_in S (drawn_edge r) p)
+pub new_edited : (S : Drawing) (r : EdgeRow) (p : Point) (t : Tables) (d : Tried) (edge n first second : ℕ) → IsRinged S → IsCut S r p → IsDraftOf S d.draft → t ≡ split_rows S (split_new_in S (drawn_edge r) p)
     → edge ≡ r.edge_id → n ≡ S.next_ids.node → first ≡ S.next_ids.edge → second ≡ S.next_ids.edge + 1 → d.draft.rows ≡ followed_rows t edge first second → d.ids ≡ the_node n ∷ the_edge first ∷ the_edge second ∷ []
-    → IsEdited S (new_done S (drawn_edge r) p) d
-new_edited S r p t d edge n first second ready cut draft rows own node one two followed ids = record {
+    → IsTried S (new_done S (drawn_edge r) p) d
+new_edited S r p t d edge n first second ringed cut draft rows own node one two followed ids = record {
   draft = draft;
-  rows = followed ∙ (λ i. followed_rows (rows i) (own i) (one i) (two i)) ∙ new_followed S r p ready cut;
+  rows = followed ∙ (λ i. followed_rows (rows i) (own i) (one i) (two i)) ∙ new_followed S r p ringed cut;
   ids = sym (ids ∙ (λ i. the_node (node i) ∷ the_edge (one i) ∷ the_edge (two i) ∷ []));
 }

@@ -15,8 +15,8 @@ use Rattle.drawing.specs.Edits.{split_edge, split_mod, split_new}
 use Rattle.drawing.specs.Tables.{Tables, drawn, drawn_edge, tables_of}
 use Rattle.drawing.specs.Writes.{edge_row_id}
 use Rattle.edit_conditions.proofs.RowTests.{edge_found, edge_none}
-use Rattle.read_set.specs.declared.end.PlanEnd.{PlanEnd}
-use Rattle.read_set.specs.declared.end.PlanEnd.TheVariants.{Memory}
+use Rattle.read_set.specs.declared.end.EditEnd.{EditEnd}
+use Rattle.read_set.specs.declared.end.EditEnd.TheVariants.{Memory}
 use Rattle.read_set.specs.Edited.{AnswersOutcome}
 use Rattle.drawing.specs.Apply.{carried_out}
 use Rattle.drawing.specs.Change.{EdgeIsCut, EdgeIsCutAnew}
@@ -55,5 +55,5 @@ accepted anew t x id found row p same is e inside =
     ∙ ap (λ b. carried_out S (cond (not b) (Err NotOnEdge) (cond anew (Ok (EdgeIsCutAnew (drawn_edge (row.now)) p)) (Ok (EdgeIsCut (drawn_edge (row.now)) p))))) inside
     ∙ done_is anew S (drawn_edge (row.now)) p
 
-pub want_of_memory : (S : Drawing) (front : ℕ) (o : Outcome) (done : Accepted) (r : Result Edited PlanEnd) → o ≡ Ok done → r ≡ Err Memory → AnswersOutcome S front o r
-want_of_memory S front o done r is e = subst (AnswersOutcome S front o) (sym e) (ap is_ok is)
+pub want_of_memory : (S : Drawing) (o : Outcome) (done : Accepted) (r : Result Edited EditEnd) → o ≡ Ok done → r ≡ Err Memory → AnswersOutcome S o r
+want_of_memory S o done r is e = subst (AnswersOutcome S o) (sym e) (ap is_ok is)

@@ -1,4 +1,3 @@
-pub mod Ready
 pub mod Renamed
 pub mod Writes
 pub mod Joined

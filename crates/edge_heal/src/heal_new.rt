@@ -5,16 +5,17 @@ ghost use Rattle.drawing.specs.HealEdges.{joined_edge};
 ghost use Rattle.drawing.specs.Tables.{drawn, drawn_edge, tables_of};
 ghost use Rattle.read_set.specs.Drafted.{IsDraftOf};
 ghost use Rattle.relation_rows.specs.KnownRows.{KnowsRows};
-ghost use Rattle.read_set.specs.Edited.{IsEdited};
+ghost use Rattle.read_set.specs.Edited.{IsTried};
 ghost use Rattle.edge_heal.specs.Healing.{AreMeeting, IsJoint, heal_new_done};
 ghost use Rattle.edge_heal.specs.Joined.{IsHealedAt, follows_on};
 ghost use Rattle.edge_heal.specs.NewHeal.{both_go, follows_back, joined_write, listed_anew, new_heal_in, new_heal_rows};
-ghost use Rattle.edge_heal.specs.Ready.{IsReady};
+ghost use Rattle.read_set.specs.Ready.{IsReady};
+ghost use Rattle.ring_laws.specs.Ringed.{IsRinged};
 ghost use Rattle.edge_heal.specs.Splitting.{split_rows};
 
 use crate::joint::{Ends, Healed, ends_at, follower, follows_on, joined_ends, joined_line};
 use crate::links::{Names, relink_rows, row_dart};
-use read_set::{Draft, Edited};
+use read_set::{Draft, Tried};
 use relation_rows::{follow_merge, listing_of};
 use std::alloc::Global;
 use std::sync::ledger::Ledger;
@@ -196,6 +197,7 @@ fn heal_new_draft<L: Ledger>(
     steps: &mut Steps<L>,
 ) -> Result<Draft, Memory>
     requires ready { IsReady (drawn excerpt.now.rows) }
+    requires ringed { IsRinged (drawn excerpt.now.rows) }
     requires stands { excerpt.now.rows ≡ tables_of (drawn excerpt.now.rows) }
     requires joint { IsJoint (drawn excerpt.now.rows) first.now second.now node }
     requires healed { IsHealedAt healed.now first.now second.now node }
@@ -218,16 +220,17 @@ pub fn heal_new<L: Ledger>(
     second: &EdgeRow,
     node: NodeId,
     steps: &mut Steps<L>,
-) -> Result<Edited, Memory>
+) -> Result<Tried, Memory>
     requires ready { IsReady (drawn excerpt.now.rows) }
+    requires ringed { IsRinged (drawn excerpt.now.rows) }
     requires stands { excerpt.now.rows ≡ tables_of (drawn excerpt.now.rows) }
     requires joint { IsJoint (drawn excerpt.now.rows) first.now second.now node }
-    ensures { IfOk result (λ d. IsEdited (drawn excerpt.now.rows)
+    ensures { IfOk result (λ d. IsTried (drawn excerpt.now.rows)
         (heal_new_done (drawn excerpt.now.rows) (drawn_edge first.now) (drawn_edge second.now) node) d) }
 {
     let healed = healed_anew(excerpt, first, second, node);
     let mut draft = heal_new_draft(alloc, excerpt, first, second, &healed, node, steps)?;
     follow_both(alloc, &mut draft, &healed, steps)?;
     let ids = edge_and_node(healed.id, node);
-    Ok(Edited { draft, ids })
+    Ok(Tried { draft, ids })
 }

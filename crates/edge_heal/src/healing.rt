@@ -6,17 +6,18 @@ ghost use Rattle.drawing.specs.HealEdges.{joined_edge};
 ghost use Rattle.drawing.specs.Tables.{drawn, drawn_edge, tables_of};
 ghost use Rattle.read_set.specs.Drafted.{IsDraftOf};
 ghost use Rattle.edge_links.specs.Links.{hand_back, row_dart};
-ghost use Rattle.read_set.specs.Edited.{IsEdited};
+ghost use Rattle.read_set.specs.Edited.{IsTried};
 ghost use Rattle.edge_heal.specs.HealWrites.{last_heal_rows, merged_rows, mod_heal_in, mod_heal_rows};
 ghost use Rattle.edge_heal.specs.Healing.{AreMeeting, IsJoint, heal_mod_done};
 ghost use Rattle.edge_heal.specs.Joined.{IsHealedAt, follows_on};
-ghost use Rattle.edge_heal.specs.Ready.{IsReady};
+ghost use Rattle.read_set.specs.Ready.{IsReady};
+ghost use Rattle.ring_laws.specs.Ringed.{IsRinged};
 ghost use Rattle.edge_heal.specs.Splitting.{HasFeaturesOf, split_rows};
 
 use crate::joint::{Healed, ends_at, follows_on, joined_ends, joined_line};
 use crate::links::{relink_rows, row_dart};
 use crate::splitting::node_and_edge;
-use read_set::{Draft, Edited};
+use read_set::{Draft, Tried};
 use relation_rows::{follow_merge, listing_of};
 use std::alloc::Global;
 use std::sync::ledger::Ledger;
@@ -179,7 +180,7 @@ fn heal_mod_draft<L: Ledger>(
     node: NodeId,
     steps: &mut Steps<L>,
 ) -> Result<Draft, Memory>
-    requires ready { IsReady (drawn excerpt.now.rows) }
+    requires ringed { IsRinged (drawn excerpt.now.rows) }
     requires stands { excerpt.now.rows ≡ tables_of (drawn excerpt.now.rows) }
     requires joint { IsJoint (drawn excerpt.now.rows) first.now second.now node }
     requires healed { IsHealedAt healed.now first.now second.now node }
@@ -202,16 +203,17 @@ pub fn heal_mod<L: Ledger>(
     second: &EdgeRow,
     node: NodeId,
     steps: &mut Steps<L>,
-) -> Result<Edited, Memory>
+) -> Result<Tried, Memory>
     requires ready { IsReady (drawn excerpt.now.rows) }
+    requires ringed { IsRinged (drawn excerpt.now.rows) }
     requires stands { excerpt.now.rows ≡ tables_of (drawn excerpt.now.rows) }
     requires joint { IsJoint (drawn excerpt.now.rows) first.now second.now node }
-    ensures { IfOk result (λ d. IsEdited (drawn excerpt.now.rows)
+    ensures { IfOk result (λ d. IsTried (drawn excerpt.now.rows)
         (heal_mod_done (drawn excerpt.now.rows) (drawn_edge first.now) (drawn_edge second.now) node) d) }
 {
     let healed = healed_into_first(first, second, node);
     let mut draft = heal_mod_draft(alloc, excerpt, first, second, &healed, node, steps)?;
     follow_first(alloc, &mut draft, &healed, steps)?;
     let ids = node_and_edge(node, healed.first);
-    Ok(Edited { draft, ids })
+    Ok(Tried { draft, ids })
 }

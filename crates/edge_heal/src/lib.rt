@@ -21,4 +21,5 @@ mod tests;
 mod writes;
 
 pub use laws::heal_law;
-pub use planning::plan;
+pub use planning::split_edge;
+pub use rules::heal_edges;

@@ -3,13 +3,14 @@ ghost use Rattle.std.specs.Prelude.{◌≡◌, ◌+◌, ◌<◌, ◌^◌, ◌∷
 ghost use Rattle.drawing.specs.Drawing.{Drawing};
 ghost use Rattle.drawing.specs.Tables.{Tables as TablesValue, drawn, drawn_edge, tables_of};
 ghost use Rattle.read_set.specs.Drafted.{IsDraftOf};
-ghost use Rattle.read_set.specs.Edited.{IsEdited};
-ghost use Rattle.edge_heal.specs.Ready.{IsReady};
+ghost use Rattle.read_set.specs.Edited.{IsTried};
+ghost use Rattle.read_set.specs.Ready.{IsReady};
+ghost use Rattle.ring_laws.specs.Ringed.{IsRinged};
 ghost use Rattle.edge_heal.specs.Splitting.{IsCut, HasFeaturesOf, followed_rows, mod_done, new_done, split_mod_in, split_new_in, split_rows};
 
 use crate::links::Parts;
 use crate::writes::{mod_writes, new_writes};
-use read_set::{Draft, Edited};
+use read_set::{Draft, Tried};
 use relation_rows::{follow_split, listing_of};
 use std::alloc::Global;
 use std::sync::ledger::Ledger;
@@ -97,6 +98,7 @@ fn split_mod_draft<L: Ledger>(
     steps: &mut Steps<L>,
 ) -> Result<Draft, Memory>
     requires ready { IsReady (drawn excerpt.now.rows) }
+    requires ringed { IsRinged (drawn excerpt.now.rows) }
     requires stands { excerpt.now.rows ≡ tables_of (drawn excerpt.now.rows) }
     requires cut { IsCut (drawn excerpt.now.rows) row.now point }
     requires edge { parts.now.edge ≡ row.now.edge_id }
@@ -122,6 +124,7 @@ fn split_new_draft<L: Ledger>(
     steps: &mut Steps<L>,
 ) -> Result<Draft, Memory>
     requires ready { IsReady (drawn excerpt.now.rows) }
+    requires ringed { IsRinged (drawn excerpt.now.rows) }
     requires stands { excerpt.now.rows ≡ tables_of (drawn excerpt.now.rows) }
     requires cut { IsCut (drawn excerpt.now.rows) row.now point }
     requires edge { parts.now.edge ≡ row.now.edge_id }
@@ -144,17 +147,18 @@ pub fn split_mod<L: Ledger>(
     row: &EdgeRow,
     point: Grid,
     steps: &mut Steps<L>,
-) -> Result<Edited, Memory>
+) -> Result<Tried, Memory>
     requires ready { IsReady (drawn excerpt.now.rows) }
+    requires ringed { IsRinged (drawn excerpt.now.rows) }
     requires stands { excerpt.now.rows ≡ tables_of (drawn excerpt.now.rows) }
     requires cut { IsCut (drawn excerpt.now.rows) row.now point }
-    ensures { IfOk result (λ d. IsEdited (drawn excerpt.now.rows) (mod_done (drawn excerpt.now.rows) (drawn_edge row.now) point) d) }
+    ensures { IfOk result (λ d. IsTried (drawn excerpt.now.rows) (mod_done (drawn excerpt.now.rows) (drawn_edge row.now) point) d) }
 {
     let parts = parts_of_old(excerpt, row);
     let mut draft = split_mod_draft(alloc, excerpt, row, &parts, point, steps)?;
     follow_parts(alloc, &mut draft, &parts, steps)?;
     let ids = node_and_edge(parts.node, parts.second);
-    Ok(Edited { draft, ids })
+    Ok(Tried { draft, ids })
 }
 
 /// The draft of an edge that goes, and two edges that come in its place.
@@ -164,15 +168,16 @@ pub fn split_new<L: Ledger>(
     row: &EdgeRow,
     point: Grid,
     steps: &mut Steps<L>,
-) -> Result<Edited, Memory>
+) -> Result<Tried, Memory>
     requires ready { IsReady (drawn excerpt.now.rows) }
+    requires ringed { IsRinged (drawn excerpt.now.rows) }
     requires stands { excerpt.now.rows ≡ tables_of (drawn excerpt.now.rows) }
     requires cut { IsCut (drawn excerpt.now.rows) row.now point }
-    ensures { IfOk result (λ d. IsEdited (drawn excerpt.now.rows) (new_done (drawn excerpt.now.rows) (drawn_edge row.now) point) d) }
+    ensures { IfOk result (λ d. IsTried (drawn excerpt.now.rows) (new_done (drawn excerpt.now.rows) (drawn_edge row.now) point) d) }
 {
     let parts = parts_anew(excerpt, row);
     let mut draft = split_new_draft(alloc, excerpt, row, &parts, point, steps)?;
     follow_parts(alloc, &mut draft, &parts, steps)?;
     let ids = node_and_edges(parts.node, parts.first, parts.second);
-    Ok(Edited { draft, ids })
+    Ok(Tried { draft, ids })
 }

@@ -15,5 +15,5 @@ returns g c =
     let parts = c.parts_anew-parts.ensures in
     new_edited S c.args.row.now c.args.point c.in_ok-draft.draft.rows (record { draft = c.follow_parts.new.draft; ids = c.node_and_edges-ids.result })
     c.parts_anew-parts.result.edge c.parts_anew-parts.result.node c.parts_anew-parts.result.first c.parts_anew-parts.result.second
-    c.requires.ready c.requires.cut (c.in_ok-follow_parts.ensures.drafted S c.in_ok-draft.ensures.draft) c.in_ok-draft.ensures.rows
+    c.requires.ringed c.requires.cut (c.in_ok-follow_parts.ensures.drafted S c.in_ok-draft.ensures.draft) c.in_ok-draft.ensures.rows
     parts.edge parts.node parts.first parts.second c.in_ok-follow_parts.ensures.rows c.node_and_edges-ids.ensures
