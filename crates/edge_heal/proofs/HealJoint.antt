@@ -9,7 +9,7 @@ use Rattle.topo_base.specs.declared.rows.EdgeRow.{EdgeRow}
 use Rattle.topo_base.specs.declared.rule.Rule.TheVariants.{ClosedEdge, HealSplitsFeature, NodeInFeature, NotJoined}
 use Rattle.drawing.specs.Drawing.{Drawing, Edge, edge_at, edge_id_of, has_node, has_only, is_end_of}
 use Rattle.drawing.specs.HalfEdge.{half_edges}
-use Rattle.drawing.specs.HealEdges.{common_nodes, healed_node, is_closed, is_nothing, joined_edge}
+use Rattle.drawing.specs.HealEdges.{common_nodes, heal_mod_done, heal_new_done, healed_node, is_closed, is_nothing, joined_edge}
 use Rattle.drawing.specs.Edits.{heal_at, heal_edges, heal_mod, heal_new}
 use Rattle.drawing.specs.Outcome.{Outcome}
 use Rattle.drawing.specs.Relations.{edge_type, follow}
@@ -31,11 +31,11 @@ use Rattle.ring_laws.proofs.KnownStays.{end_is}
 use Rattle.ring_laws.proofs.RingsStaying.{rings_stay}
 use Rattle.ring_laws.proofs.WithoutEdge.{kept_edge, was_edge}
 use Rattle.edge_heal.specs.HealWrites.{healed_edges}
-use Rattle.edge_heal.specs.Healing.{AreMeeting, IsJoint, heal_mod_done, heal_new_done}
+use Rattle.edge_heal.specs.Healing.{AreMeeting, IsJoint}
 use Rattle.edge_heal.specs.NewHeal.{new_healed_edges}
 use Rattle.edge_heal.proofs.HealLinks.{IsHealOf, make_joint}
-use Rattle.edge_heal.proofs.SplitAllowed.{EndsKnown, ends_known}
-use Rattle.edge_heal.proofs.SplitEdges.{changed_there, unchanged_there}
+use Rattle.edge_split.proofs.SplitAllowed.{EndsKnown, ends_known}
+use Rattle.edge_split.proofs.SplitEdges.{changed_there, unchanged_there}
 
 -- the row of an edge is that of an edge of the drawing
 pub row_drawn : (S : Drawing) (r : EdgeRow) → Contains (tables_of S).edges r → Contains S.edges (drawn_edge r)

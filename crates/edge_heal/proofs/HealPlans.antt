@@ -20,8 +20,8 @@ use Rattle.drawing.specs.Apply.{carried_out}
 use Rattle.drawing.specs.Change.{EdgesAreJoined, EdgesAreJoinedAnew}
 use Rattle.edge_heal.specs.Healing.{IsRowOf, heal_done_by}
 use Rattle.read_set.specs.declared.edited.Edited.{Edited}
-use Rattle.edge_heal.proofs.SplitDrafts.{row_found}
-use Rattle.edge_heal.proofs.SplitPlans.{row_in}
+use Rattle.edge_split.proofs.SplitDrafts.{row_found}
+use Rattle.edge_split.proofs.SplitPlans.{row_in}
 
 -- ---- the edges
 pub first_missing : (anew : Bool) (t x : Tables) (id : ℕ) (found : Option (Bor EdgeRow)) (other : Option Edge) → t ≡ x → ((row : Bor EdgeRow) → found ≡ Some row → ⊥) → option_copied found ≡ row_at edge_row_id t.edges id

@@ -203,8 +203,11 @@ fn heal_rows<L: Ledger>(
     heal_at(alloc, excerpt, first, second, node, anew, steps)
 }
 
-/// Two edges are healed into one, by the rules of ST_ModEdgeHeal, or of ST_NewEdgeHeal where the joined
-/// edge is to be new: NoEdge, ClosedEdge, NotJoined, OthersJoined, HealSplitsFeature, NodeInFeature.
+/// What ST_ModEdgeHeal of SQL/MM Topo-Geo answers on the excerpt where two edges are healed into one, or
+/// ST_NewEdgeHeal, where the joined edge is to be new: the row writes that make the tables follow it, and
+/// a reply that names the node that goes and the joined edge, a new edge first. Refused has the first rule
+/// that refuses it, of NoEdge, ClosedEdge, NotJoined, OthersJoined, HealSplitsFeature and NodeInFeature;
+/// Memory comes only where none does. Nothing is changed.
 pub fn heal_edges<L: Ledger>(
     alloc: Global,
     excerpt: &Excerpt,

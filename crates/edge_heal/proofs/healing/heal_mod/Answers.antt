@@ -2,7 +2,7 @@ use Rattle.std.proofs.Common.{refl}
 use Rattle.drawing.specs.Tables.{drawn, drawn_edge}
 use Rattle.edge_heal.specs.HealWrites.{mod_heal_in}
 use Rattle.edge_heal.proofs.HealDrafts.{heal_edited}
-use Rattle.edge_heal.proofs.SplitDrafts.{has_features}
+use Rattle.edge_split.proofs.SplitDrafts.{has_features}
 use Rattle.edge_heal.proofs.healing.heal_mod.Goals as goal
 
 pub follow_first-requires : goal.follow_first-requires

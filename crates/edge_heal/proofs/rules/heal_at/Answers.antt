@@ -2,7 +2,7 @@ use Rattle.std.proofs.Common.{rules, sym, ◌∙◌}
 use Rattle.drawing.specs.Tables.{drawn, drawn_edge}
 use Rattle.edge_heal.specs.Healing.{heal_done_by}
 use Rattle.edge_heal.proofs.HealPlans.{accepted}
-use Rattle.edge_heal.proofs.SplitPlans.{want_of_memory}
+use Rattle.edge_split.proofs.SplitPlans.{want_of_memory}
 use Rattle.edge_heal.proofs.rules.heal_at.Goals as goal
 
 pub returns-in_err-tried : goal.returns-in_err-tried
