@@ -5,7 +5,7 @@ use Rattle.std.specs.List.{Contains}
 use Rattle.topo_base.specs.declared.rows.EdgeRow.{EdgeRow}
 use Rattle.topo_base.specs.declared.rule.Rule.TheVariants.{HealSplitsFeature, NoEdge, NodeInFeature}
 use Rattle.drawing.specs.Drawing.{Drawing, Edge, edge_at}
-use Rattle.drawing.specs.Edits.{heal_at, heal_edges, heal_mod, heal_new}
+use Rattle.drawing.specs.Edits.{heal_at, heal_edges}
 use Rattle.drawing.specs.IsoEdits.{is_in_feature}
 use Rattle.drawing.specs.Outcome.{Outcome}
 use Rattle.drawing.specs.Relations.{edge_type, node_type}

@@ -11,13 +11,12 @@ use Rattle.topo_base.specs.declared.rows.EdgeRow.{EdgeRow}
 use Rattle.drawing.specs.Drawing.{Drawing, Edge, edge_at, edge_id_of}
 use Rattle.drawing.specs.HalfEdge.{half_edges}
 use Rattle.plane.specs.Line.{first_vertex, is_inside_line, is_line_end, last_vertex, on_line}
-use Rattle.drawing.specs.Outcome.{Outcome}
 use Rattle.plane.specs.Relation.{SameCoordinates}
 use Rattle.drawing.specs.Relations.{edge_type, follow}
 use Rattle.drawing.specs.Replay.{drawing_of}
 use Rattle.drawing.specs.Rows.{with_change, without_row}
 use Rattle.drawing.specs.SplitEdge.{first_part, second_part}
-use Rattle.drawing.specs.Edits.{split_edge, split_mod, split_new}
+use Rattle.drawing.specs.Edits.{split_edge}
 use Rattle.drawing.specs.Tables.{drawn_edge, edge_row}
 use Rattle.drawing.specs.Apply.{Decision, carried_out}
 use Rattle.drawing.specs.Change.{EdgeIsCut, EdgeIsCutAnew}

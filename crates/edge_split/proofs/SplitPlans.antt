@@ -11,7 +11,7 @@ use Rattle.plane.specs.LinePoints.{has_proper_segments}
 use Rattle.drawing.specs.Outcome.{Accepted, Outcome}
 use Rattle.drawing.specs.Plain.{IsPlain}
 use Rattle.drawing.specs.Rows.{row_at}
-use Rattle.drawing.specs.Edits.{split_edge, split_mod, split_new}
+use Rattle.drawing.specs.Edits.{split_edge}
 use Rattle.drawing.specs.Tables.{Tables, drawn, drawn_edge, tables_of}
 use Rattle.drawing.specs.Writes.{edge_row_id}
 use Rattle.edit_conditions.proofs.RowTests.{edge_found, edge_none}

@@ -1,5 +1,5 @@
 -- The darts of an edge that is split, by the names of its parts.
-use Rattle.std.specs.Prelude.{ℕ, Bool, not, ◌==◌, if◌then◌else◌}
+use Rattle.std.specs.Prelude.{ℕ, ◌==◌, if◌then◌else◌}
 use Rattle.topo_base.specs.declared.ids.Dart.{Dart}
 
 -- where the edge is split into a first and a second part, a dart of it that leaves one of its nodes is that of the part there
