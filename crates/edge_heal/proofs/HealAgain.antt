@@ -8,7 +8,7 @@ use Rattle.topo_base.specs.declared.edit.Edit.TheVariants.{ModEdgeSplit, NewEdge
 use Rattle.topo_base.specs.declared.rule.Rule.TheVariants.{NotOnEdge}
 use Rattle.drawing.specs.Drawing.{Drawing, Edge, edge_at, has_face, has_node, has_only, is_end_of, node_id_of}
 use Rattle.drawing.specs.HealEdges.{common_nodes, is_closed}
-use Rattle.drawing.specs.Edits.{heal_edges, heal_mod, heal_new, split_edge, split_mod, split_new}
+use Rattle.drawing.specs.Edits.{heal_edges, heal_mod, heal_new, split_edge}
 use Rattle.drawing.specs.IsoEdits.{is_in_feature, with_node}
 use Rattle.plane.specs.Line.{is_line_end, is_proper, on_line, segments_of}
 use Rattle.drawing.specs.Outcome.{the_edge, the_node}

@@ -10,7 +10,7 @@ use Rattle.drawing.specs.Relations.{followed, insert_row, is_among, is_hierarchi
 use Rattle.plane.proofs.ListTests.{contains_cases, contains_here, contains_none, contains_there}
 use Rattle.relation_rows.specs.KnownRows.{HasLayer}
 use Rattle.relation_rows.proofs.MergedInto.{one_row, put_twice}
-use Rattle.relation_rows.proofs.Order.{before_not_after, same_element, same_itself, same_not_before, same_topogeo, same_type}
+use Rattle.relation_rows.proofs.Order.{before_not_after, same_not_before}
 use Rattle.relation_rows.proofs.Putting.{AllAfter, Ascend, Stand, commutes, put_after, put_at, put_before, put_first, stand}
 use Rattle.relation_rows.proofs.Putting.Stand.{Before, Same, After}
 use Rattle.reference_laws.proofs.Followed.{in_ordered, in_put}

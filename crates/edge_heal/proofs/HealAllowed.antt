@@ -19,23 +19,23 @@ use Rattle.edge_links.proofs.Linking.{all_set}
 use Rattle.edge_links.proofs.Writing.{can_link}
 use Rattle.edge_heal.specs.HealWrites.{healed_edges, last_heal_writes, mod_heal_in, mod_heal_writes}
 use Rattle.edge_heal.specs.Renamed.{healed_name}
-use Rattle.edge_heal.specs.Splitting.{split_rows}
-use Rattle.edge_heal.specs.Writes.{all_relinks}
+use Rattle.edge_split.specs.Splitting.{rows_boxed_as}
+use Rattle.edge_split.specs.Relinks.{all_relinks}
 use Rattle.edge_heal.proofs.HealLinks.{IsHealOf, name_in}
 use Rattle.edge_heal.proofs.HealedRows.{heal_links, healed_rows, line_id, link_id, link_on, with_line_of, with_link}
-use Rattle.edge_heal.proofs.LinkWrites.{all_set_id, follower, has_mapped, links_known, links_made, writes_are}
-use Rattle.edge_heal.proofs.SplitAllowed.{EndsKnown, follower_known, row_there}
+use Rattle.edge_split.proofs.LinkWrites.{all_set_id, follower, has_mapped, links_known, links_made, writes_are}
+use Rattle.edge_split.proofs.SplitAllowed.{EndsKnown, follower_known, row_there}
 
 -- what the writes leave
 pub heal_written : (S : Drawing) (n : ℕ) (e f : Edge) (rows : List RelationRow) (ids : Counters) → IsHealOf S n e f e.edge_id (healed_edges S n e f) rows ids
-    → all_written S.next_ids (tables_of S) (mod_heal_writes (tables_of S).edges e f n (link_on S n e f e.edge_id)) ≡ split_rows S (mod_heal_in S e f n)
+    → all_written S.next_ids (tables_of S) (mod_heal_writes (tables_of S).edges e f n (link_on S n e f e.edge_id)) ≡ rows_boxed_as S (mod_heal_in S e f n)
 heal_written S n e f rows ids h =
     let last = last_heal_writes e f n (link_on S n e f e.edge_id) in
     let all = healed_rows S n e f rows ids h in
     written-append S.next_ids (tables_of S) (all_relinks (name_in n e f e.edge_id) (tables_of S).edges) last
     ∙ ap (λ (ws : List RowWrite). all_written S.next_ids (all_written S.next_ids (tables_of S) ws) last) (writes_are (name_in n e f e.edge_id) (half_edges S) S.edges)
     ∙ ap (λ (u : Tables). all_written S.next_ids u last) (links_made S.next_ids (tables_of S) (heal_links S n e f e.edge_id))
-    ∙ (λ i. record (split_rows S (mod_heal_in S e f n)) { edges = all i })
+    ∙ (λ i. record (rows_boxed_as S (mod_heal_in S e f n)) { edges = all i })
 
 -- ---- they may be made
 pub name_known : (e f id : ℕ) (way : Bool) (has : ℕ → Bool) (d : Dart) → has id ≡ true → has d.edge ≡ true → has (healed_name e f id way d).edge ≡ true

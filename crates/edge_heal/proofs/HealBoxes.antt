@@ -18,7 +18,7 @@ use Rattle.face_rings.proofs.HalfLines.{HasPlainLines}
 use Rattle.ring_laws.proofs.HealedSides.{IsHealed}
 use Rattle.edge_heal.proofs.HealLinks.{edge_cases, make_joint}
 use Rattle.edge_heal.proofs.HealSides.{first_beside, second_beside}
-use Rattle.edge_heal.proofs.SplitBoxes.{Spans, beside, beside_has, least_same, of_beside}
+use Rattle.edge_split.proofs.SplitBoxes.{Spans, beside, beside_has, least_same, of_beside}
 
 -- ---- the vertices of lines walked back, and joined
 reversed_has : (l : List Point) (q : Point) → Contains l q → Contains (reverse l) q

@@ -1,5 +1,5 @@
 -- Two edges that may be healed at a node: what is known of them, and of the drawing after it.
-use Rattle.std.proofs.Common.{◌≡◌, ℕ, refl, sym, ◌∙◌, ap, subst, ◌⊎◌, inl, inr, ⊎_elim, Bool, true, false, not, cond, ◌&&◌, ◌||◌, eqb-true, eq-eqb, List, [], ◌∷◌, ◌++◌, Some, Ok, Err}
+use Rattle.std.proofs.Common.{◌≡◌, ℕ, refl, sym, ◌∙◌, ap, subst, ◌⊎◌, inl, inr, ⊎_elim, Bool, true, false, not, cond, ◌&&◌, ◌||◌, eqb-true, eq-eqb, List, [], ◌∷◌, Some, Ok, Err}
 use Rattle.std.specs.Prelude.{◌==◌}
 use Rattle.std.specs.List.{Contains, list_any}
 use Rattle.std.proofs.lemmas.Bool.{and_from, false≢true, false_from_ne_true, not-true, or_left, or_right}
@@ -9,7 +9,7 @@ use Rattle.topo_base.specs.declared.rows.EdgeRow.{EdgeRow}
 use Rattle.topo_base.specs.declared.rule.Rule.TheVariants.{ClosedEdge, HealSplitsFeature, NodeInFeature, NotJoined}
 use Rattle.drawing.specs.Drawing.{Drawing, Edge, edge_at, edge_id_of, has_node, has_only, is_end_of}
 use Rattle.drawing.specs.HalfEdge.{half_edges}
-use Rattle.drawing.specs.HealEdges.{common_nodes, healed_node, is_closed, is_nothing, joined_edge}
+use Rattle.drawing.specs.HealEdges.{common_nodes, heal_mod_done, heal_new_done, healed_node, is_closed, is_nothing, joined_edge}
 use Rattle.drawing.specs.Edits.{heal_at, heal_edges, heal_mod, heal_new}
 use Rattle.drawing.specs.Outcome.{Outcome}
 use Rattle.drawing.specs.Relations.{edge_type, follow}
@@ -31,12 +31,11 @@ use Rattle.ring_laws.proofs.KnownStays.{end_is}
 use Rattle.ring_laws.proofs.RingsStaying.{rings_stay}
 use Rattle.ring_laws.proofs.WithoutEdge.{kept_edge, was_edge}
 use Rattle.edge_heal.specs.HealWrites.{healed_edges}
-use Rattle.edge_heal.specs.Healing.{AreMeeting, IsJoint, heal_mod_done, heal_new_done}
+use Rattle.edge_heal.specs.Healing.{AreMeeting, IsJoint}
 use Rattle.edge_heal.specs.NewHeal.{new_healed_edges}
-use Rattle.edge_heal.specs.Ready.{IsReady}
 use Rattle.edge_heal.proofs.HealLinks.{IsHealOf, make_joint}
-use Rattle.edge_heal.proofs.SplitAllowed.{EndsKnown, ends_known}
-use Rattle.edge_heal.proofs.SplitEdges.{changed_there, unchanged_there}
+use Rattle.edge_split.proofs.SplitAllowed.{EndsKnown, ends_known}
+use Rattle.edge_split.proofs.SplitEdges.{changed_there, unchanged_there}
 
 -- the row of an edge is that of an edge of the drawing
 pub row_drawn : (S : Drawing) (r : EdgeRow) → Contains (tables_of S).edges r → Contains S.edges (drawn_edge r)
@@ -177,23 +176,23 @@ heals anew S r q n h =
     (both_false (e.edge_id == f.edge_id) (is_nothing (common_nodes e f)) h.apart (something (common_nodes e f) n found.0)) (ap (heal_at anew S e f) h.healed ∙ at)
 
 -- ---- both drawings are plain
-pub mod_is : (S : Drawing) (r q : EdgeRow) (n : ℕ) → IsReady S → IsJoint S r q n
+pub mod_is : (S : Drawing) (r q : EdgeRow) (n : ℕ) → IsRinged S → IsJoint S r q n
     → IsHealOf S n (drawn_edge r) (drawn_edge q) r.edge_id (healed_edges S n (drawn_edge r) (drawn_edge q)) (follow S edge_type (r.edge_id ∷ q.edge_id ∷ []) (r.edge_id ∷ [])) S.next_ids
-mod_is S r q n ready h =
-    let good = has_plain_lines S ready.ringed.rings in
-    let after : IsRinged (heal_mod_done S (drawn_edge r) (drawn_edge q) n).drawing = subst IsRinged (ap (drawing_of S) (heals false S r q n h)) (rings_stay.each_edit S (ModEdgeHeal r.edge_id q.edge_id) refl ready.ringed) in
+mod_is S r q n ringed h =
+    let good = has_plain_lines S ringed.rings in
+    let after : IsRinged (heal_mod_done S (drawn_edge r) (drawn_edge q) n).drawing = subst IsRinged (ap (drawing_of S) (heals false S r q n h)) (rings_stay.each_edit S (ModEdgeHeal r.edge_id q.edge_id) refl ringed) in
     record {
       lines = good;
       healed = healed_changed S n (drawn_edge r) (drawn_edge q) good (healable S r q n h);
       more = has_plain_lines (heal_mod_done S (drawn_edge r) (drawn_edge q) n).drawing after.rings;
     }
 
-pub new_is : (S : Drawing) (r q : EdgeRow) (n : ℕ) → IsReady S → IsJoint S r q n
+pub new_is : (S : Drawing) (r q : EdgeRow) (n : ℕ) → IsRinged S → IsJoint S r q n
     → IsHealOf S n (drawn_edge r) (drawn_edge q) S.next_ids.edge (new_healed_edges S n (drawn_edge r) (drawn_edge q)) (follow S edge_type (r.edge_id ∷ q.edge_id ∷ []) (S.next_ids.edge ∷ []))
     (heal_new_done S (drawn_edge r) (drawn_edge q) n).drawing.next_ids
-new_is S r q n ready h =
-    let good = has_plain_lines S ready.ringed.rings in
-    let after : IsRinged (heal_new_done S (drawn_edge r) (drawn_edge q) n).drawing = subst IsRinged (ap (drawing_of S) (heals true S r q n h)) (rings_stay.each_edit S (NewEdgeHeal r.edge_id q.edge_id) refl ready.ringed) in
+new_is S r q n ringed h =
+    let good = has_plain_lines S ringed.rings in
+    let after : IsRinged (heal_new_done S (drawn_edge r) (drawn_edge q) n).drawing = subst IsRinged (ap (drawing_of S) (heals true S r q n h)) (rings_stay.each_edit S (NewEdgeHeal r.edge_id q.edge_id) refl ringed) in
     record {
       lines = good;
       healed = healed_anew S n (drawn_edge r) (drawn_edge q) (healable S r q n h);
@@ -201,20 +200,20 @@ new_is S r q n ready h =
     }
 
 -- ---- what is there
-pub first_known : (S : Drawing) (r q : EdgeRow) (n : ℕ) → IsReady S → IsJoint S r q n → EndsKnown S (drawn_edge r)
-first_known S r q n ready h = ends_known S (drawn_edge r) ready.ringed.edges (row_drawn S r h.first)
+pub first_known : (S : Drawing) (r q : EdgeRow) (n : ℕ) → IsRinged S → IsJoint S r q n → EndsKnown S (drawn_edge r)
+first_known S r q n ringed h = ends_known S (drawn_edge r) ringed.edges (row_drawn S r h.first)
 
-pub second_known : (S : Drawing) (r q : EdgeRow) (n : ℕ) → IsReady S → IsJoint S r q n → EndsKnown S (drawn_edge q)
-second_known S r q n ready h = ends_known S (drawn_edge q) ready.ringed.edges (row_drawn S q h.second)
+pub second_known : (S : Drawing) (r q : EdgeRow) (n : ℕ) → IsRinged S → IsJoint S r q n → EndsKnown S (drawn_edge q)
+second_known S r q n ringed h = ends_known S (drawn_edge q) ringed.edges (row_drawn S q h.second)
 
-pub node_known : (S : Drawing) (r q : EdgeRow) (n : ℕ) → IsReady S → IsJoint S r q n → has_node S n ≡ true
-node_known S r q n ready h =
-    let known = first_known S r q n ready h in
+pub node_known : (S : Drawing) (r q : EdgeRow) (n : ℕ) → IsRinged S → IsJoint S r q n → has_node S n ≡ true
+node_known S r q n ringed h =
+    let known = first_known S r q n ringed h in
     ⊎_elim (λ (p : r.start_node ≡ n). subst (λ m. has_node S m ≡ true) p known.start) (λ (p : r.end_node ≡ n). subst (λ m. has_node S m ≡ true) p known.end) (end_is n (drawn_edge r) (healable S r q n h).at_e)
 
 -- the lines meet at the node
-pub meeting : (S : Drawing) (r q : EdgeRow) (n : ℕ) → IsReady S → IsJoint S r q n → AreMeeting (drawn_edge r) (drawn_edge q) n
-meeting S r q n ready h =
-    let g = mod_is S r q n ready h in
+pub meeting : (S : Drawing) (r q : EdgeRow) (n : ℕ) → IsRinged S → IsJoint S r q n → AreMeeting (drawn_edge r) (drawn_edge q) n
+meeting S r q n ringed h =
+    let g = mod_is S r q n ringed h in
     let j = make_joint S n (drawn_edge r) (drawn_edge q) r.edge_id (healed_edges S n (drawn_edge r) (drawn_edge q)) g.lines g.healed in
     record { at_end = j.meets.0; at_start = j.meets.1 }

@@ -26,7 +26,7 @@ use Rattle.ring_laws.proofs.KnownStays.{end_is}
 use Rattle.ring_laws.proofs.SplitSides.{first_of_some, from_end, half_there}
 use Rattle.ring_laws.proofs.Turning.{AreSpread, Turns, next_turns, spread_of, turns_next, twin_twin}
 use Rattle.edge_heal.specs.Renamed.{healed_name}
-use Rattle.edge_heal.proofs.SplitLinks.{like_one, turned_like}
+use Rattle.edge_split.proofs.SplitLinks.{like_one, turned_like}
 
 -- ---- the directions of a joined line
 end_of_more : (xs m : List Point) → 2 ≤ length m → first_direction (reverse (xs ++ m)) ≡ first_direction (reverse m)

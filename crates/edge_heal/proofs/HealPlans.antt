@@ -5,7 +5,7 @@ use Rattle.std.specs.List.{Contains}
 use Rattle.topo_base.specs.declared.rows.EdgeRow.{EdgeRow}
 use Rattle.topo_base.specs.declared.rule.Rule.TheVariants.{HealSplitsFeature, NoEdge, NodeInFeature}
 use Rattle.drawing.specs.Drawing.{Drawing, Edge, edge_at}
-use Rattle.drawing.specs.Edits.{heal_at, heal_edges, heal_mod, heal_new}
+use Rattle.drawing.specs.Edits.{heal_at, heal_edges}
 use Rattle.drawing.specs.IsoEdits.{is_in_feature}
 use Rattle.drawing.specs.Outcome.{Outcome}
 use Rattle.drawing.specs.Relations.{edge_type, node_type}
@@ -14,14 +14,14 @@ use Rattle.drawing.specs.Rows.{row_at}
 use Rattle.drawing.specs.Tables.{Tables, drawn, drawn_edge, tables_of}
 use Rattle.drawing.specs.Writes.{edge_row_id}
 use Rattle.edit_conditions.proofs.RowTests.{edge_found, edge_none}
-use Rattle.read_set.specs.declared.end.PlanEnd.{PlanEnd}
+use Rattle.read_set.specs.declared.end.EditEnd.{EditEnd}
 use Rattle.read_set.specs.Edited.{AnswersOutcome}
 use Rattle.drawing.specs.Apply.{carried_out}
 use Rattle.drawing.specs.Change.{EdgesAreJoined, EdgesAreJoinedAnew}
 use Rattle.edge_heal.specs.Healing.{IsRowOf, heal_done_by}
 use Rattle.read_set.specs.declared.edited.Edited.{Edited}
-use Rattle.edge_heal.proofs.SplitDrafts.{row_found}
-use Rattle.edge_heal.proofs.SplitPlans.{row_in}
+use Rattle.edge_split.proofs.SplitDrafts.{row_found}
+use Rattle.edge_split.proofs.SplitPlans.{row_in}
 
 -- ---- the edges
 pub first_missing : (anew : Bool) (t x : Tables) (id : ℕ) (found : Option (Bor EdgeRow)) (other : Option Edge) → t ≡ x → ((row : Bor EdgeRow) → found ≡ Some row → ⊥) → option_copied found ≡ row_at edge_row_id t.edges id
@@ -45,8 +45,8 @@ row_there t x id found row stands same is e =
       named = subst (λ n. edge_at (drawn x) n ≡ Some (drawn_edge (row.now))) (sym (eqb-true (row.now).edge_id id there.1)) (edge_named t x id found row same is e);
     }
 
-pub answers_rows : (anew : Bool) (S : Drawing) (front : ℕ) (a b : Option Edge) (e f : Edge) (r : Result Edited PlanEnd) → a ≡ Some e → b ≡ Some f → AnswersOutcome S front (heal_edges anew S (Some e) (Some f)) r → AnswersOutcome S front (heal_edges anew S a b) r
-answers_rows anew S front a b e f r first second h = subst (λ (o : Outcome). AnswersOutcome S front o r) (λ i. heal_edges anew S (sym first i) (sym second i)) h
+pub answers_rows : (anew : Bool) (S : Drawing) (a b : Option Edge) (e f : Edge) (r : Result Edited EditEnd) → a ≡ Some e → b ≡ Some f → AnswersOutcome S (heal_edges anew S (Some e) (Some f)) r → AnswersOutcome S (heal_edges anew S a b) r
+answers_rows anew S a b e f r first second h = subst (λ (o : Outcome). AnswersOutcome S o r) (λ i. heal_edges anew S (sym first i) (sym second i)) h
 
 -- ---- features forbid it not
 done_is : (anew : Bool) (S : Drawing) (e f : Edge) (n : ℕ) → carried_out S (cond anew (Ok (EdgesAreJoinedAnew e f n)) (Ok (EdgesAreJoined e f n))) ≡ Ok (heal_done_by anew S e f n)

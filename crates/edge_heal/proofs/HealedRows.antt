@@ -20,7 +20,7 @@ use Rattle.edge_links.proofs.Linking.{Link, all_set, row_with}
 use Rattle.edge_heal.specs.HealWrites.{healed_edges}
 use Rattle.edge_heal.proofs.HealLinks.{IsHealOf, name_in, other_links}
 use Rattle.edge_heal.proofs.HealRows.{joined_back, joined_on}
-use Rattle.edge_heal.proofs.LinkWrites.{all_links, all_set_id, follower, row_relinked}
+use Rattle.edge_split.proofs.LinkWrites.{all_links, all_set_id, follower, row_relinked}
 
 abbrev pub heal_links : Drawing → ℕ → Edge → Edge → ℕ → List Link
 heal_links S n e f id = all_links (name_in n e f id) (half_edges S) S.edges

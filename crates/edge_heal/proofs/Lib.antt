@@ -1,12 +1,3 @@
-pub mod SplitLists
-pub mod SplitLinks
-pub mod LinkWrites
-pub mod SplitEdges
-pub mod SplitRows
-pub mod SplitAllowed
-pub mod SplitBoxes
-pub mod SplitDrafts
-pub mod SplitPlans
 pub mod HealLinks
 pub mod HealRows
 pub mod HealedRows

@@ -23,15 +23,15 @@ use Rattle.edge_links.proofs.Linking.{all_set}
 use Rattle.edge_links.proofs.Writing.{can_link}
 use Rattle.edge_links.specs.Links.{row_dart}
 use Rattle.edge_heal.specs.NewHeal.{both_go, joined_write, new_heal_in, new_heal_writes, new_healed_edges}
-use Rattle.edge_heal.specs.Splitting.{split_rows}
-use Rattle.edge_heal.specs.Writes.{all_relinks}
+use Rattle.edge_split.specs.Splitting.{rows_boxed_as}
+use Rattle.edge_split.specs.Relinks.{all_relinks}
 use Rattle.edge_heal.proofs.HealAllowed.{joined_known, name_known}
 use Rattle.edge_heal.proofs.HealLinks.{IsHealOf, name_in}
 use Rattle.edge_heal.proofs.HealedRows.{heal_links, joined_sides, link_on}
-use Rattle.edge_heal.proofs.LinkWrites.{all_set_id, any_left, any_right, follower, has_mapped, links_known, links_made, writes_are}
+use Rattle.edge_split.proofs.LinkWrites.{all_set_id, any_left, any_right, follower, has_mapped, links_known, links_made, writes_are}
 use Rattle.edge_heal.proofs.NewHealedRows.{came_row, link_back, new_healed_rows}
-use Rattle.edge_heal.proofs.SplitAllowed.{EndsKnown, face_there, follower_known, row_there}
-use Rattle.edge_heal.proofs.SplitRows.{differs}
+use Rattle.edge_split.proofs.SplitAllowed.{EndsKnown, face_there, follower_known, row_there}
+use Rattle.edge_split.proofs.SplitRows.{differs}
 
 -- the tables once the joined edge has come
 abbrev pub joined_in : Drawing → ℕ → Edge → Edge → Tables
@@ -54,7 +54,7 @@ row_came S n e f =
 
 -- what the writes leave
 pub new_heal_written : (S : Drawing) (n : ℕ) (e f : Edge) (rows : List RelationRow) (ids : Counters) → IsHealOf S n e f S.next_ids.edge (new_healed_edges S n e f) rows ids
-    → all_written S.next_ids (tables_of S) (new_heal_writes (tables_of S).edges e f n S.next_ids.edge (link_on S n e f S.next_ids.edge) (link_back S n e f S.next_ids.edge)) ≡ split_rows S (new_heal_in S e f n)
+    → all_written S.next_ids (tables_of S) (new_heal_writes (tables_of S).edges e f n S.next_ids.edge (link_on S n e f S.next_ids.edge) (link_back S n e f S.next_ids.edge)) ≡ rows_boxed_as S (new_heal_in S e f n)
 new_heal_written S n e f rows ids h =
     let id = S.next_ids.edge in
     let t = joined_in S n e f in
@@ -64,7 +64,7 @@ new_heal_written S n e f rows ids h =
     ∙ ap (λ (ws : List RowWrite). all_written S.next_ids (all_written S.next_ids t ws) last) (writes_are (name_in n e f id) (half_edges S) S.edges)
     ∙ ap (λ (u : Tables). all_written S.next_ids u last) (links_made S.next_ids t (heal_links S n e f id))
     ∙ (λ i. all_written S.next_ids (record t { edges = map (all_set (heal_links S n e f id)) (row_came S n e f i) }) last)
-    ∙ (λ i. record (split_rows S (new_heal_in S e f n)) { edges = all i })
+    ∙ (λ i. record (rows_boxed_as S (new_heal_in S e f n)) { edges = all i })
 
 -- ---- they may be made
 -- a row with another id stays where one goes

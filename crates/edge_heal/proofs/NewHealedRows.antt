@@ -20,8 +20,8 @@ use Rattle.edge_heal.specs.NewHeal.{new_healed_edges}
 use Rattle.edge_heal.proofs.HealLinks.{IsHealOf, name_in, other_links}
 use Rattle.edge_heal.proofs.HealRows.{joined_back, joined_on}
 use Rattle.edge_heal.proofs.HealedRows.{clash, heal_links, joined_sides, link_on}
-use Rattle.edge_heal.proofs.LinkWrites.{all_set_id, follower, row_kept, row_relinked}
-use Rattle.edge_heal.proofs.SplitRows.{differs}
+use Rattle.edge_split.proofs.LinkWrites.{all_set_id, follower, row_kept, row_relinked}
+use Rattle.edge_split.proofs.SplitRows.{differs}
 
 -- what follows the joined edge, walked back to where the first edge came from
 abbrev pub link_back : Drawing → ℕ → Edge → Edge → ℕ → Dart

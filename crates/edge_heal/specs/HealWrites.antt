@@ -13,7 +13,7 @@ use Rattle.drawing.specs.Tables.{Tables, drawn, drawn_edge}
 use Rattle.edge_links.specs.Links.{hand_back, row_dart}
 use Rattle.edge_heal.specs.Joined.{follows_on}
 use Rattle.edge_heal.specs.Renamed.{healed_name}
-use Rattle.edge_heal.specs.Writes.{all_relinks}
+use Rattle.edge_split.specs.Relinks.{all_relinks}
 
 -- the ends, the line and the link of the joined edge, where next is what follows it, walked on from the first edge to the second
 abbrev pub last_heal_writes : Edge → Edge → ℕ → Dart → List RowWrite

@@ -1,15 +1,13 @@
 -- The edges that may be healed, and what is done.
-use Rattle.std.specs.Prelude.{◌≡◌, ℕ, ◌+◌, ◌==◌, Bool, true, false, IsTrue, Contains, [], ◌∷◌, ◌++◌, Some, if◌then◌else◌, reverse}
+use Rattle.std.specs.Prelude.{◌≡◌, ℕ, ◌==◌, Bool, true, false, IsTrue, Contains, Some, if◌then◌else◌, reverse}
 use Rattle.topo_base.specs.declared.rows.EdgeRow.{EdgeRow}
 use Rattle.drawing.specs.Drawing.{Drawing, Edge, edge_at}
-use Rattle.drawing.specs.HealEdges.{away_from, healed_node, is_closed, joined_edge}
+use Rattle.drawing.specs.HealEdges.{away_from, heal_mod_done, heal_new_done, healed_node, is_closed}
 use Rattle.drawing.specs.IsoEdits.{is_in_feature}
 use Rattle.plane.specs.Line.{first_vertex, last_vertex}
-use Rattle.drawing.specs.Outcome.{Accepted, the_edge, the_node}
-use Rattle.drawing.specs.Relations.{edge_type, follow, node_type}
+use Rattle.drawing.specs.Outcome.{Accepted}
+use Rattle.drawing.specs.Relations.{edge_type, node_type}
 use Rattle.drawing.specs.RemoveEdge.{have_same_features}
-use Rattle.drawing.specs.Rows.{with_change, without_row}
-use Rattle.drawing.specs.Drawing.{edge_id_of, node_id_of}
 use Rattle.drawing.specs.Tables.{drawn_edge, tables_of}
 
 -- the rows of two edges are there, neither is closed, they aren't one, n is the node at which they are healed, and no feature forbids it
@@ -44,30 +42,6 @@ pub record AreMeeting (e f : Edge) (n : ℕ) : Type 0 where
   pub at_end : n == e.end_node ≡ true → last_vertex e.geom ≡ first_vertex ((away_from n f).points)
   pub at_start : n == e.end_node ≡ false → last_vertex (reverse ((away_from n f).points)) ≡ first_vertex e.geom
 
--- modedgeheal: the first edge is the result
-abbrev pub heal_mod_done : Drawing → Edge → Edge → ℕ → Accepted
-heal_mod_done S e f n = record {
-  drawing = record S {
-    nodes = without_row node_id_of S.nodes n;
-    edges = with_change edge_id_of (without_row edge_id_of S.edges f.edge_id) e.edge_id (λ x. joined_edge n x f x.edge_id);
-    relations = follow S edge_type (e.edge_id ∷ f.edge_id ∷ []) (e.edge_id ∷ []);
-  };
-  ids = the_node n ∷ the_edge e.edge_id ∷ [];
-}
-
--- newedgeheal: the result is a new edge
-abbrev pub heal_new_done : Drawing → Edge → Edge → ℕ → Accepted
-heal_new_done S e f n =
-    let new = S.next_ids.edge in
-    record {
-      drawing = record S {
-        nodes = without_row node_id_of S.nodes n;
-        edges = without_row edge_id_of (without_row edge_id_of S.edges e.edge_id) f.edge_id ++ joined_edge n e f new ∷ [];
-        relations = follow S edge_type (e.edge_id ∷ f.edge_id ∷ []) (new ∷ []);
-        next_ids = record (S.next_ids) { edge = new + 1 };
-      };
-      ids = the_edge new ∷ the_node n ∷ [];
-    }
-
+-- what is done: the joined edge is new, or it is the first
 abbrev pub heal_done_by : Bool → Drawing → Edge → Edge → ℕ → Accepted
 heal_done_by anew S e f n = if anew then heal_new_done S e f n else heal_mod_done S e f n

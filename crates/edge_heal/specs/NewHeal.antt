@@ -13,7 +13,7 @@ use Rattle.drawing.specs.Tables.{Tables, drawn, drawn_edge}
 use Rattle.edge_links.specs.Links.{row_dart}
 use Rattle.edge_heal.specs.Joined.{follows_on, row_follower}
 use Rattle.edge_heal.specs.Renamed.{healed_name}
-use Rattle.edge_heal.specs.Writes.{all_relinks}
+use Rattle.edge_split.specs.Relinks.{all_relinks}
 
 -- the joined edge comes, where on follows it, walked on from the first edge to the second, and back follows it, walked back
 abbrev pub joined_write : Edge → Edge → ℕ → ℕ → Dart → Dart → RowWrite

@@ -1,11 +1,6 @@
--- The darts of an edge that is split, by the names of its parts.
+-- The darts of two edges that are healed, by the names of the joined edge.
 use Rattle.std.specs.Prelude.{ℕ, Bool, not, ◌==◌, if◌then◌else◌}
 use Rattle.topo_base.specs.declared.ids.Dart.{Dart}
-
--- where the edge is split into a first and a second part, a dart of it that leaves one of its nodes is that of the part there
-abbrev pub renamed : ℕ → ℕ → ℕ → Dart → Dart
-renamed edge first second d =
-    if d.edge == edge then record { edge = if d.forward then first else second; forward = d.forward } else d
 
 -- where two edges are healed into one, which is walked forward (or not) from the first one on, a dart of the first that leaves its far node is that of the joined edge there, and one of the second that leaves its far node is the other
 abbrev pub healed_name : ℕ → ℕ → ℕ → Bool → Dart → Dart

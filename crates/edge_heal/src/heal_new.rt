@@ -1,20 +1,21 @@
 // The draft in which a new edge comes in the place of two that are healed at a node.
 ghost use Rattle.std.specs.Prelude.{◌≡◌, ◌∷◌, ◌++◌, [], IfOk, OnOk, if◌then◌else◌};
 ghost use Rattle.drawing.specs.Drawing.{Drawing};
-ghost use Rattle.drawing.specs.HealEdges.{joined_edge};
+ghost use Rattle.drawing.specs.HealEdges.{heal_new_done, joined_edge};
 ghost use Rattle.drawing.specs.Tables.{drawn, drawn_edge, tables_of};
 ghost use Rattle.read_set.specs.Drafted.{IsDraftOf};
 ghost use Rattle.relation_rows.specs.KnownRows.{KnowsRows};
-ghost use Rattle.read_set.specs.Edited.{IsEdited};
-ghost use Rattle.edge_heal.specs.Healing.{AreMeeting, IsJoint, heal_new_done};
+ghost use Rattle.read_set.specs.Edited.{IsTried};
+ghost use Rattle.edge_heal.specs.Healing.{AreMeeting, IsJoint};
 ghost use Rattle.edge_heal.specs.Joined.{IsHealedAt, follows_on};
 ghost use Rattle.edge_heal.specs.NewHeal.{both_go, follows_back, joined_write, listed_anew, new_heal_in, new_heal_rows};
-ghost use Rattle.edge_heal.specs.Ready.{IsReady};
-ghost use Rattle.edge_heal.specs.Splitting.{split_rows};
+ghost use Rattle.read_set.specs.Ready.{IsReady};
+ghost use Rattle.ring_laws.specs.Ringed.{IsRinged};
+ghost use Rattle.edge_split.specs.Splitting.{rows_boxed_as};
 
 use crate::joint::{Ends, Healed, ends_at, follower, follows_on, joined_ends, joined_line};
-use crate::links::{Names, relink_rows, row_dart};
-use read_set::{Draft, Edited};
+use edge_split::{Names, relink_rows, row_dart};
+use read_set::{Draft, Tried};
 use relation_rows::{follow_merge, listing_of};
 use std::alloc::Global;
 use std::sync::ledger::Ledger;
@@ -196,12 +197,13 @@ fn heal_new_draft<L: Ledger>(
     steps: &mut Steps<L>,
 ) -> Result<Draft, Memory>
     requires ready { IsReady (drawn excerpt.now.rows) }
+    requires ringed { IsRinged (drawn excerpt.now.rows) }
     requires stands { excerpt.now.rows ≡ tables_of (drawn excerpt.now.rows) }
     requires joint { IsJoint (drawn excerpt.now.rows) first.now second.now node }
     requires healed { IsHealedAt healed.now first.now second.now node }
     requires id { healed.now.id ≡ excerpt.now.rows.next_ids.edge }
     ensures draft { IfOk result (λ d. IsDraftOf (drawn excerpt.now.rows) d) }
-    ensures rows { IfOk result (λ d. d.rows ≡ split_rows (drawn excerpt.now.rows) (new_heal_in (drawn excerpt.now.rows) (drawn_edge first.now) (drawn_edge second.now) node)) }
+    ensures rows { IfOk result (λ d. d.rows ≡ rows_boxed_as (drawn excerpt.now.rows) (new_heal_in (drawn excerpt.now.rows) (drawn_edge first.now) (drawn_edge second.now) node)) }
 {
     let writes = heal_writes(alloc, excerpt.tables(), first, second, healed, node)?;
     let mut draft = Draft::of(alloc, excerpt)?;
@@ -218,16 +220,17 @@ pub fn heal_new<L: Ledger>(
     second: &EdgeRow,
     node: NodeId,
     steps: &mut Steps<L>,
-) -> Result<Edited, Memory>
+) -> Result<Tried, Memory>
     requires ready { IsReady (drawn excerpt.now.rows) }
+    requires ringed { IsRinged (drawn excerpt.now.rows) }
     requires stands { excerpt.now.rows ≡ tables_of (drawn excerpt.now.rows) }
     requires joint { IsJoint (drawn excerpt.now.rows) first.now second.now node }
-    ensures { IfOk result (λ d. IsEdited (drawn excerpt.now.rows)
+    ensures { IfOk result (λ d. IsTried (drawn excerpt.now.rows)
         (heal_new_done (drawn excerpt.now.rows) (drawn_edge first.now) (drawn_edge second.now) node) d) }
 {
     let healed = healed_anew(excerpt, first, second, node);
     let mut draft = heal_new_draft(alloc, excerpt, first, second, &healed, node, steps)?;
     follow_both(alloc, &mut draft, &healed, steps)?;
     let ids = edge_and_node(healed.id, node);
-    Ok(Edited { draft, ids })
+    Ok(Tried { draft, ids })
 }

@@ -2,21 +2,21 @@
 ghost use Rattle.std.specs.Prelude.{◌≡◌, ◌++◌, ◌∷◌, [], not, ◌==◌, IfOk, OnOk};
 ghost use Rattle.topo_base.specs.declared.write.RowWrite.TheVariants.{DropEdge, DropNode, SetLine, SetNext};
 ghost use Rattle.drawing.specs.Drawing.{Drawing};
-ghost use Rattle.drawing.specs.HealEdges.{joined_edge};
+ghost use Rattle.drawing.specs.HealEdges.{heal_mod_done, joined_edge};
 ghost use Rattle.drawing.specs.Tables.{drawn, drawn_edge, tables_of};
 ghost use Rattle.read_set.specs.Drafted.{IsDraftOf};
 ghost use Rattle.edge_links.specs.Links.{hand_back, row_dart};
-ghost use Rattle.read_set.specs.Edited.{IsEdited};
+ghost use Rattle.read_set.specs.Edited.{IsTried};
 ghost use Rattle.edge_heal.specs.HealWrites.{last_heal_rows, merged_rows, mod_heal_in, mod_heal_rows};
-ghost use Rattle.edge_heal.specs.Healing.{AreMeeting, IsJoint, heal_mod_done};
+ghost use Rattle.edge_heal.specs.Healing.{AreMeeting, IsJoint};
 ghost use Rattle.edge_heal.specs.Joined.{IsHealedAt, follows_on};
-ghost use Rattle.edge_heal.specs.Ready.{IsReady};
-ghost use Rattle.edge_heal.specs.Splitting.{HasFeaturesOf, split_rows};
+ghost use Rattle.read_set.specs.Ready.{IsReady};
+ghost use Rattle.ring_laws.specs.Ringed.{IsRinged};
+ghost use Rattle.edge_split.specs.Splitting.{HasFeaturesOf, rows_boxed_as};
 
 use crate::joint::{Healed, ends_at, follows_on, joined_ends, joined_line};
-use crate::links::{relink_rows, row_dart};
-use crate::splitting::node_and_edge;
-use read_set::{Draft, Edited};
+use edge_split::{node_and_edge, relink_rows, row_dart};
+use read_set::{Draft, Tried};
 use relation_rows::{follow_merge, listing_of};
 use std::alloc::Global;
 use std::sync::ledger::Ledger;
@@ -179,13 +179,13 @@ fn heal_mod_draft<L: Ledger>(
     node: NodeId,
     steps: &mut Steps<L>,
 ) -> Result<Draft, Memory>
-    requires ready { IsReady (drawn excerpt.now.rows) }
+    requires ringed { IsRinged (drawn excerpt.now.rows) }
     requires stands { excerpt.now.rows ≡ tables_of (drawn excerpt.now.rows) }
     requires joint { IsJoint (drawn excerpt.now.rows) first.now second.now node }
     requires healed { IsHealedAt healed.now first.now second.now node }
     requires id { healed.now.id ≡ first.now.edge_id }
     ensures draft { IfOk result (λ d. IsDraftOf (drawn excerpt.now.rows) d) }
-    ensures rows { IfOk result (λ d. d.rows ≡ split_rows (drawn excerpt.now.rows) (mod_heal_in (drawn excerpt.now.rows) (drawn_edge first.now) (drawn_edge second.now) node)) }
+    ensures rows { IfOk result (λ d. d.rows ≡ rows_boxed_as (drawn excerpt.now.rows) (mod_heal_in (drawn excerpt.now.rows) (drawn_edge first.now) (drawn_edge second.now) node)) }
 {
     let writes = heal_writes(alloc, excerpt.tables(), first, second, healed, node)?;
     let mut draft = Draft::of(alloc, excerpt)?;
@@ -202,16 +202,17 @@ pub fn heal_mod<L: Ledger>(
     second: &EdgeRow,
     node: NodeId,
     steps: &mut Steps<L>,
-) -> Result<Edited, Memory>
+) -> Result<Tried, Memory>
     requires ready { IsReady (drawn excerpt.now.rows) }
+    requires ringed { IsRinged (drawn excerpt.now.rows) }
     requires stands { excerpt.now.rows ≡ tables_of (drawn excerpt.now.rows) }
     requires joint { IsJoint (drawn excerpt.now.rows) first.now second.now node }
-    ensures { IfOk result (λ d. IsEdited (drawn excerpt.now.rows)
+    ensures { IfOk result (λ d. IsTried (drawn excerpt.now.rows)
         (heal_mod_done (drawn excerpt.now.rows) (drawn_edge first.now) (drawn_edge second.now) node) d) }
 {
     let healed = healed_into_first(first, second, node);
     let mut draft = heal_mod_draft(alloc, excerpt, first, second, &healed, node, steps)?;
     follow_first(alloc, &mut draft, &healed, steps)?;
     let ids = node_and_edge(node, healed.first);
-    Ok(Edited { draft, ids })
+    Ok(Tried { draft, ids })
 }

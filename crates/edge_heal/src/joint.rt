@@ -7,7 +7,7 @@ ghost use Rattle.edge_heal.specs.Healing.{AreMeeting};
 ghost use Rattle.edge_heal.specs.Joined.{IsHealedAt, follows_on, row_follower};
 ghost use Rattle.edge_heal.specs.Renamed.{healed_name};
 
-use crate::links::Names;
+use edge_split::Names;
 use grid_lines::join;
 use std::alloc::Global;
 use topo_base::{Dart, EdgeId, EdgeRow, Line, Memory, NodeId};

@@ -7,14 +7,15 @@ ghost use Rattle.drawing.specs.IsoEdits.{is_in_feature as is_element_in_feature}
 ghost use Rattle.drawing.specs.Relations.{edge_type, node_type};
 ghost use Rattle.drawing.specs.RemoveEdge.{have_same_features};
 ghost use Rattle.drawing.specs.Tables.{drawn, drawn_edge, tables_of};
-ghost use Rattle.read_set.specs.Edited.{AnswersOutcome, IsEdited};
+ghost use Rattle.read_set.specs.Edited.{AnswersOutcome, IsTried};
 ghost use Rattle.edge_heal.specs.Healing.{AreJoined, IsJoint, IsRowOf, heal_done_by};
-ghost use Rattle.edge_heal.specs.Ready.{IsReady};
+ghost use Rattle.read_set.specs.Ready.{IsReady};
+ghost use Rattle.ring_laws.specs.Ringed.{IsRinged};
 
 use crate::heal_new::heal_new;
 use crate::healing::heal_mod;
 use edit_conditions::{has_only, is_in_feature};
-use read_set::{Edited, PlanEnd};
+use read_set::{EditEnd, Edited, Tried};
 use relation_rows::have_same_features;
 use std::alloc::Global;
 use std::sync::ledger::Ledger;
@@ -128,11 +129,12 @@ fn heal<L: Ledger>(
     node: NodeId,
     anew: bool,
     steps: &mut Steps<L>,
-) -> Result<Edited, Memory>
+) -> Result<Tried, Memory>
     requires ready { IsReady (drawn excerpt.now.rows) }
+    requires ringed { IsRinged (drawn excerpt.now.rows) }
     requires stands { excerpt.now.rows ≡ tables_of (drawn excerpt.now.rows) }
     requires joint { IsJoint (drawn excerpt.now.rows) first.now second.now node }
-    ensures { IfOk result (λ d. IsEdited (drawn excerpt.now.rows)
+    ensures { IfOk result (λ d. IsTried (drawn excerpt.now.rows)
         (heal_done_by anew (drawn excerpt.now.rows) (drawn_edge first.now) (drawn_edge second.now) node) d) }
 {
     if anew {
@@ -152,28 +154,23 @@ fn heal_at<L: Ledger>(
     node: NodeId,
     anew: bool,
     steps: &mut Steps<L>,
-) -> Result<Edited, PlanEnd>
+) -> Result<Edited, EditEnd>
     requires ready { IsReady (drawn excerpt.now.rows) }
+    requires ringed { IsRinged (drawn excerpt.now.rows) }
     requires stands { excerpt.now.rows ≡ tables_of (drawn excerpt.now.rows) }
     requires joined { AreJoined (drawn excerpt.now.rows) first.now second.now node }
-    ensures { AnswersOutcome (drawn excerpt.now.rows) excerpt.now.front
+    ensures { AnswersOutcome (drawn excerpt.now.rows)
         (heal_at anew (drawn excerpt.now.rows) (drawn_edge first.now) (drawn_edge second.now) (Some node)) result }
 {
-    let front = excerpt.front();
     let tables = excerpt.tables();
     if !are_listed_alike(tables, first, second, steps) {
-        return Err(PlanEnd::Refused {
-            rule: Rule::HealSplitsFeature,
-            front,
-        });
+        return Err(EditEnd::Refused(Rule::HealSplitsFeature));
     }
     if is_listed(tables, node, steps) {
-        return Err(PlanEnd::Refused {
-            rule: Rule::NodeInFeature,
-            front,
-        });
+        return Err(EditEnd::Refused(Rule::NodeInFeature));
     }
-    Ok(heal(alloc, excerpt, first, second, node, anew, steps)?)
+    let tried = heal(alloc, excerpt, first, second, node, anew, steps)?;
+    Ok(tried.into_edited())
 }
 
 /// Two edges of the excerpt are healed, by the rules on their nodes, ClosedEdge, NotJoined and
@@ -185,38 +182,32 @@ fn heal_rows<L: Ledger>(
     second: &EdgeRow,
     anew: bool,
     steps: &mut Steps<L>,
-) -> Result<Edited, PlanEnd>
+) -> Result<Edited, EditEnd>
     requires ready { IsReady (drawn excerpt.now.rows) }
+    requires ringed { IsRinged (drawn excerpt.now.rows) }
     requires stands { excerpt.now.rows ≡ tables_of (drawn excerpt.now.rows) }
     requires first { IsRowOf (drawn excerpt.now.rows) first.now }
     requires second { IsRowOf (drawn excerpt.now.rows) second.now }
-    ensures { AnswersOutcome (drawn excerpt.now.rows) excerpt.now.front
+    ensures { AnswersOutcome (drawn excerpt.now.rows)
         (heal_edges anew (drawn excerpt.now.rows) (Some (drawn_edge first.now)) (Some (drawn_edge second.now))) result }
 {
-    let front = excerpt.front();
     if is_one_closed(first, second) {
-        return Err(PlanEnd::Refused {
-            rule: Rule::ClosedEdge,
-            front,
-        });
+        return Err(EditEnd::Refused(Rule::ClosedEdge));
     }
     if are_not_joined(first, second) {
-        return Err(PlanEnd::Refused {
-            rule: Rule::NotJoined,
-            front,
-        });
+        return Err(EditEnd::Refused(Rule::NotJoined));
     }
     let Some(node) = healed_node(excerpt.tables(), first, second, steps) else {
-        return Err(PlanEnd::Refused {
-            rule: Rule::OthersJoined,
-            front,
-        });
+        return Err(EditEnd::Refused(Rule::OthersJoined));
     };
     heal_at(alloc, excerpt, first, second, node, anew, steps)
 }
 
-/// Two edges are healed into one, by the rules of ST_ModEdgeHeal, or of ST_NewEdgeHeal where the joined
-/// edge is to be new: NoEdge, ClosedEdge, NotJoined, OthersJoined, HealSplitsFeature, NodeInFeature.
+/// What ST_ModEdgeHeal of SQL/MM Topo-Geo answers on the excerpt where two edges are healed into one, or
+/// ST_NewEdgeHeal, where the joined edge is to be new: the row writes that make the tables follow it, and
+/// a reply that names the node that goes and the joined edge, a new edge first. Refused has the first rule
+/// that refuses it, of NoEdge, ClosedEdge, NotJoined, OthersJoined, HealSplitsFeature and NodeInFeature;
+/// Memory comes only where none does. Nothing is changed.
 pub fn heal_edges<L: Ledger>(
     alloc: Global,
     excerpt: &Excerpt,
@@ -224,25 +215,19 @@ pub fn heal_edges<L: Ledger>(
     other: EdgeId,
     anew: bool,
     steps: &mut Steps<L>,
-) -> Result<Edited, PlanEnd>
+) -> Result<Edited, EditEnd>
     requires ready { IsReady (drawn excerpt.now.rows) }
+    requires ringed { IsRinged (drawn excerpt.now.rows) }
     requires stands { excerpt.now.rows ≡ tables_of (drawn excerpt.now.rows) }
-    ensures { AnswersOutcome (drawn excerpt.now.rows) excerpt.now.front
+    ensures { AnswersOutcome (drawn excerpt.now.rows)
         (heal_edges anew (drawn excerpt.now.rows) (edge_at (drawn excerpt.now.rows) edge) (edge_at (drawn excerpt.now.rows) other)) result }
 {
-    let front = excerpt.front();
     let tables = excerpt.tables();
     let Some(first) = tables.edge(edge, steps) else {
-        return Err(PlanEnd::Refused {
-            rule: Rule::NoEdge,
-            front,
-        });
+        return Err(EditEnd::Refused(Rule::NoEdge));
     };
     let Some(second) = tables.edge(other, steps) else {
-        return Err(PlanEnd::Refused {
-            rule: Rule::NoEdge,
-            front,
-        });
+        return Err(EditEnd::Refused(Rule::NoEdge));
     };
     heal_rows(alloc, excerpt, first, second, anew, steps)
 }

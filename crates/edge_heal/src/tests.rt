@@ -1,6 +1,8 @@
-//! The links that change where a closed edge is split: its own, and that of an edge beside it.
+//! The links that change where two edges are healed, and the rules on their nodes.
 
-use crate::links::{Parts, relink_rows};
+use crate::healing::healed_into_first;
+use crate::rules::{are_not_joined, is_one_closed};
+use edge_split::relink_rows;
 use std::alloc::Global;
 use std::process::Abort;
 use std::test::Fail;
@@ -9,23 +11,27 @@ use topo_base::{
 };
 use topo_tables::Writes;
 
+fn grid(rt: &impl Abort, x: i64, y: i64) -> Grid {
+    Grid::of(x, y).expect(rt, "off the grid")
+}
+
+/// A line through two points.
+fn line(rt: &impl Abort, alloc: Global, from: Grid, to: Grid) -> Result<Line, Fail> {
+    let vertices = vec![in alloc; from, to]?;
+    Ok(Line::of(vertices).expect(rt, "too few vertices"))
+}
+
 fn dart(edge: u32, forward: bool) -> Dart {
     let edge = EdgeId(edge);
     Dart { edge, forward }
 }
 
-fn line(rt: &impl Abort, alloc: Global) -> Result<Line, Fail> {
-    let from = Grid::of(0, 0).expect(rt, "off the grid");
-    let to = Grid::of(3, 4).expect(rt, "off the grid");
-    Ok(Line::of(vec![in alloc; from, to]?).expect(rt, "too few vertices"))
-}
-
-/// An edge with these links.
-fn edge(id: u32, left: Dart, right: Dart, geom: Line) -> EdgeRow {
+/// An edge in face 0.
+fn edge(id: u32, start: u32, end: u32, left: Dart, right: Dart, geom: Line) -> EdgeRow {
     EdgeRow {
         edge_id: EdgeId(id),
-        start_node: NodeId(1),
-        end_node: NodeId(1),
+        start_node: NodeId(start),
+        end_node: NodeId(end),
         next_left_edge: left,
         next_right_edge: right,
         left_face: FaceId(0),
@@ -34,41 +40,77 @@ fn edge(id: u32, left: Dart, right: Dart, geom: Line) -> EdgeRow {
     }
 }
 
-/// Whether the write sets this link of the edge to the second part walked back.
-fn is_set(one: &RowWrite, edge: u32, hand: Hand) -> bool {
-    let second = RowDart {
-        edge: RowId::Old(7),
-        forward: false,
-    };
+/// Edge 1, from node 1 to node 2, and edge 2, from node 2 to node 3, with no others.
+#[derive(Drop)]
+struct Chain {
+    first: EdgeRow,
+    second: EdgeRow,
+}
+
+fn chain_of_two(rt: &impl Abort, alloc: Global) -> Result<Chain, Fail> {
+    let middle = grid(rt, 4, 0);
+    let west = line(rt, alloc, grid(rt, 0, 0), middle)?;
+    let east = line(rt, alloc, middle, grid(rt, 8, 1))?;
+    let first = edge(1, 1, 2, dart(2, true), dart(1, true), west);
+    let second = edge(2, 2, 3, dart(2, false), dart(1, false), east);
+    Ok(Chain { first, second })
+}
+
+/// Whether the write sets this link of the edge.
+fn sets_link(one: &RowWrite, id: u32, at: Hand, wanted: RowDart) -> bool {
     match one {
-        RowWrite::SetNext {
-            edge: own,
-            hand: side,
-            next,
-        } => *own == RowId::Old(edge) && *side == hand && *next == second,
+        RowWrite::SetNext { edge, hand, next } => {
+            *edge == RowId::Old(id) && *hand == at && *next == wanted
+        }
         _ => false,
     }
 }
 
+fn row_dart(edge: u32, forward: bool) -> RowDart {
+    RowDart {
+        edge: RowId::Old(edge),
+        forward,
+    }
+}
+
+/// Whether the writes are those of the links of a chain.
+fn links_joined(made: &[RowWrite]) -> bool {
+    made.len() == 3
+        && sets_link(&made[0], 1, Hand::Left, row_dart(1, false))
+        && sets_link(&made[1], 2, Hand::Left, row_dart(1, false))
+        && sets_link(&made[2], 2, Hand::Right, row_dart(1, true))
+}
+
+/// The links of both edges of a chain name the darts of the joined edge.
 #[test]
-fn a_closed_edge(rt: HostRuntime) -> Result<(), Fail> {
+fn links_name_the_joined_edge(rt: HostRuntime) -> Result<(), Fail> {
     let alloc = rt.alloc();
-    let slots = vec![in alloc;
-        Some(edge(1, dart(1, true), dart(1, false), line(&rt, alloc)?)),
-        None,
-        Some(edge(3, dart(1, false), dart(3, true), line(&rt, alloc)?)),
-    ]?;
-    let parts = Parts {
-        edge: EdgeId(1),
-        node: NodeId(2),
-        first: EdgeId(1),
-        second: EdgeId(7),
-    };
+    let Chain { first, second } = chain_of_two(&rt, alloc)?;
+    let healed = healed_into_first(&first, &second, NodeId(2));
+    let slots = vec![in alloc; Some(first), Some(second)]?;
     let mut writes = Writes::new(alloc);
-    relink_rows(&mut writes, &parts, &slots)?;
-    let made = writes.as_slice();
-    assert_eq!(rt; made.len(), 2);
-    assert!(rt; is_set(&made[0], 1, Hand::Right));
-    assert!(rt; is_set(&made[1], 3, Hand::Left));
+    relink_rows(&mut writes, &healed, &slots)?;
+    assert!(rt; links_joined(writes.as_slice()));
+    Ok(())
+}
+
+/// Whether the rules on nodes tell a closed edge, an edge with itself, and edges without a common node
+/// from two that may be healed.
+fn rules_tell(first: &EdgeRow, second: &EdgeRow, closed: &EdgeRow, apart: &EdgeRow) -> bool {
+    is_one_closed(first, closed)
+        && !is_one_closed(first, second)
+        && are_not_joined(first, first)
+        && are_not_joined(first, apart)
+        && !are_not_joined(first, second)
+}
+
+#[test]
+fn rules_on_nodes(rt: HostRuntime) -> Result<(), Fail> {
+    let alloc = rt.alloc();
+    let Chain { first, second } = chain_of_two(&rt, alloc)?;
+    let bend = line(&rt, alloc, grid(&rt, 0, 5), grid(&rt, 1, 5))?;
+    let closed = edge(3, 1, 1, dart(3, true), dart(3, false), bend.copy(alloc)?);
+    let apart = edge(4, 5, 3, dart(4, false), dart(4, true), bend);
+    assert!(rt; rules_tell(&first, &second, &closed, &apart));
     Ok(())
 }

@@ -12,4 +12,4 @@ returns g c =
     let healed = c.healed_anew-healed.result in
     let is = c.healed_anew-healed.ensures in
     new_heal_edited S c.args.first.now c.args.second.now c.args.node c.in_ok-draft.draft.rows (record { draft = c.follow_both.new.draft; ids = c.edge_and_node-ids.result }) healed.first healed.second healed.id
-    c.requires.ready c.requires.joint (c.in_ok-follow_both.ensures.drafted S c.in_ok-draft.ensures.draft) c.in_ok-draft.ensures.rows is.healed.first is.healed.second is.id c.in_ok-follow_both.ensures.rows c.edge_and_node-ids.ensures
+    c.requires.ringed c.requires.joint (c.in_ok-follow_both.ensures.drafted S c.in_ok-draft.ensures.draft) c.in_ok-draft.ensures.rows is.healed.first is.healed.second is.id c.in_ok-follow_both.ensures.rows c.edge_and_node-ids.ensures

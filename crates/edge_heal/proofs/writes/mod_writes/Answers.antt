@@ -1,8 +1,0 @@
-use Rattle.drawing.specs.Places.{rows_of}
-use Rattle.edge_heal.proofs.SplitLists.{mod_joined}
-use Rattle.edge_heal.proofs.writes.mod_writes.Goals as goal
-
-pub returns : goal.returns
-returns c =
-    mod_joined c.args.tables.now.rows.edges (rows_of c.edges.result.now) c.args.row.now c.args.point c.in_ok-up_to.field-0.up_to c.args.parts.now.node c.args.parts.now.edge c.args.parts.now.first c.args.parts.now.second
-    c.in_ok-writes.writes c.relink_rows.new.writes c.push_line.new.writes c.requires.edge c.requires.first c.in_ok-up_to.ensures.first c.in_ok-writes.ensures c.edges.ensures c.in_ok-relink_rows.ensures c.in_ok-push_line.ensures

@@ -1,0 +1,9 @@
+pub mod SplitLists
+pub mod SplitLinks
+pub mod LinkWrites
+pub mod SplitEdges
+pub mod SplitRows
+pub mod SplitAllowed
+pub mod SplitBoxes
+pub mod SplitDrafts
+pub mod SplitPlans

@@ -1,0 +1,276 @@
+-- What follows each half-edge where an edge is split.
+use Rattle.std.proofs.Common.{◌≡◌, ℕ, refl, sym, ◌∙◌, ap, subst, ◌⊎◌, inl, inr, ⊎_elim, Bool, true, false, cond, List}
+use Rattle.std.specs.Prelude.{flat_map, ◌==◌}
+use Rattle.std.specs.List.{Contains}
+use Rattle.std.proofs.lemmas.Bool.{or_left, or_right, eqb-true, eq-eqb, false≢true, false_from_ne_true}
+use Rattle.topo_base.specs.Point.{Point}
+use Rattle.topo_base.specs.declared.ids.Dart.{Dart}
+use Rattle.topo_base.specs.declared.rows.RelationRow.{RelationRow}
+use Rattle.topo_base.specs.declared.rows.Counters.{Counters}
+use Rattle.plane.specs.Direction.{Direction, is_nearer, quarter, same_direction, OneDirection, IsNotZero}
+use Rattle.drawing.specs.Drawing.{Drawing, Edge, is_end_of, is_isolated}
+use Rattle.drawing.specs.HalfEdge.{HalfEdge, backward_of, both_ways, dart_of, forward_of, half_edges, twin}
+use Rattle.drawing.specs.PlainInOrder.{IsPlainInOrder}
+use Rattle.drawing.specs.SplitEdge.{first_part, second_part}
+use Rattle.drawing.specs.Star.{leaving, next_of}
+use Rattle.plane.proofs.Directions.{nearer_self, nearer_total, same_in, same_out}
+use Rattle.face_rings.proofs.HalfLines.{HasPlainLines}
+use Rattle.face_rings.proofs.HalvesApart.{half_of, forward_there, backward_there, one_edge}
+use Rattle.face_rings.proofs.Ranks.{by_bool}
+use Rattle.edge_links.proofs.Half.{twin_backward}
+use Rattle.ring_laws.proofs.Alike.{Alike, IsLike, like_self, near_alike}
+use Rattle.ring_laws.proofs.Known.{none_ends, none_leaves}
+use Rattle.ring_laws.proofs.KnownStays.{new_isolated}
+use Rattle.ring_laws.proofs.SplitSides.{IsSplitInto, first_way, second_way, half_there, split_with}
+use Rattle.ring_laws.proofs.Turning.{AreSpread, Turns, next_turns, spread_of, turns_next}
+use Rattle.edge_split.specs.Renamed.{renamed}
+
+-- an edge that is split: both drawings are plain
+pub record IsSplitOf (S : Drawing) (e : Edge) (p : Point) (id id' : ℕ) (fs : List Edge) (rows : List RelationRow) (ids : Counters) : Type 0 where
+  pub ordered : IsPlainInOrder S
+  pub lines : HasPlainLines S
+  pub split : IsSplitInto S e p id id' fs
+  pub more : HasPlainLines (split_with S p fs rows ids)
+
+-- k is the half-edge that leaves its node where h does, by its new name
+pub record StandsFor (S : Drawing) (e : Edge) (id id' : ℕ) (fs : List Edge) (h k : HalfEdge) : Type 0 where
+  pub there : Contains (half_edges S) h
+  pub new : Contains (flat_map both_ways fs) k
+  pub like : IsLike h k
+  pub name : dart_of k ≡ renamed e.edge_id id id' (dart_of h)
+
+twin_back : (e : Edge) → forward_of e ≡ twin (backward_of e)
+twin_back e = sym (twin_backward e)
+
+-- ---- half-edges that stand for one are one
+own_way : (u : Direction) → IsNotZero u → same_direction u u ≡ true
+own_way u some = same_in u u (nearer_total u u u some some some (nearer_self u u) (nearer_self u u))
+
+pub like_one : (u v w : Direction) → IsNotZero u → IsNotZero v → Alike u w → Alike v w → OneDirection u v
+like_one u v w some other a b =
+    let e : quarter u v ≡ quarter u u = a.1 v ∙ b.0 w ∙ sym (a.1 u ∙ a.0 w) in
+    same_out u v some other (ap (λ q. q == 0) e ∙ own_way u some)
+
+pub turned_like : (u v : Direction) → Alike u v → Alike v u
+turned_like u v a = (λ r. sym (a.0 r), λ r. sym (a.1 r))
+
+one_like : (hs : List HalfEdge) (h g k : HalfEdge) → AreSpread hs → Contains hs h → Contains hs g → IsLike h k → IsLike g k → h ≡ g
+one_like hs h g k a ch cg l m = a.differ h g ch cg (l.node ∙ sym m.node) (like_one (leaving h) (leaving g) (leaving k) (a.some h ch) (a.some g cg) l.way m.way)
+
+other_like : (ks : List HalfEdge) (h k m : HalfEdge) → AreSpread ks → Contains ks k → Contains ks m → IsLike h k → IsLike h m → k ≡ m
+other_like ks h k m a ck cm l n =
+    a.differ k m ck cm (sym l.node ∙ n.node) (like_one (leaving k) (leaving m) (leaving h) (a.some k ck) (a.some m cm) (turned_like (leaving h) (leaving k) l.way) (turned_like (leaving h) (leaving m) n.way))
+
+node_of : {h k : HalfEdge} → h ≡ k → h.from_node ≡ k.from_node
+node_of e = ap (λ (x : HalfEdge). x.from_node) e
+
+-- ---- names
+own_name : (m id id' : ℕ) (way : Bool) → renamed m id id' (record { edge = m; forward = way }) ≡ record { edge = cond way id id'; forward = way }
+own_name m id id' way = ap (λ b. cond b (record { edge = cond way id id'; forward = way }) (record { edge = m; forward = way })) (eq-eqb m m refl)
+
+pub other_name : (m id id' : ℕ) (d : Dart) → (d.edge ≡ m → ⊥) → renamed m id id' d ≡ d
+other_name m id id' d other = ap (λ b. cond b (record { edge = cond d.forward id id'; forward = d.forward }) d) (false_from_ne_true (d.edge == m) (λ t. other (eqb-true d.edge m t)))
+
+first_like : (S : Drawing) (e : Edge) (p : Point) (id id' : ℕ) (fs : List Edge) → IsSplitInto S e p id id' fs → IsLike (forward_of e) (forward_of (first_part e S.next_ids.node p id))
+first_like S e p id id' fs split = record { node = refl; way = first_way p e.geom split.on split.not_first; left = refl; right = refl }
+
+second_like : (S : Drawing) (e : Edge) (p : Point) (id id' : ℕ) (fs : List Edge) → IsSplitInto S e p id id' fs → IsLike (backward_of e) (backward_of (second_part e S.next_ids.node p id'))
+second_like S e p id id' fs split = record { node = refl; way = second_way p e.geom split.on split.not_last; left = refl; right = refl }
+
+pub first_stands : (S : Drawing) (e : Edge) (p : Point) (id id' : ℕ) (fs : List Edge) → IsSplitInto S e p id id' fs → StandsFor S e id id' fs (forward_of e) (forward_of (first_part e S.next_ids.node p id))
+first_stands S e p id id' fs split = record {
+  there = forward_there S.edges e split.there;
+  new = forward_there fs (first_part e S.next_ids.node p id) split.first;
+  like = first_like S e p id id' fs split;
+  name = sym (own_name e.edge_id id id' true);
+}
+
+pub second_stands : (S : Drawing) (e : Edge) (p : Point) (id id' : ℕ) (fs : List Edge) → IsSplitInto S e p id id' fs → StandsFor S e id id' fs (backward_of e) (backward_of (second_part e S.next_ids.node p id'))
+second_stands S e p id id' fs split = record {
+  there = backward_there S.edges e split.there;
+  new = backward_there fs (second_part e S.next_ids.node p id') split.second;
+  like = second_like S e p id id' fs split;
+  name = sym (own_name e.edge_id id id' false);
+}
+
+-- a half-edge of another edge
+pub other_stands : (S : Drawing) (e : Edge) (p : Point) (id id' : ℕ) (fs : List Edge) → IsSplitInto S e p id id' fs → (x : Edge) (h : HalfEdge) → Contains S.edges x → (x.edge_id ≡ e.edge_id → ⊥)
+    → (forward_of x ≡ h) ⊎ (backward_of x ≡ h) → StandsFor S e id id' fs h h
+other_stands S e p id id' fs split x h c other way = record {
+  there = half_there S.edges h x c way;
+  new = half_there fs h x (split.old x c other) way;
+  like = like_self h;
+  name = sym (other_name e.edge_id id id' (dart_of h) (λ q. other (of_edge way ∙ q)));
+}
+  where
+    of_edge : (forward_of x ≡ h) ⊎ (backward_of x ≡ h) → x.edge_id ≡ h.edge_id
+    of_edge (inl q) = ap (λ (k : HalfEdge). k.edge_id) q
+    of_edge (inr q) = ap (λ (k : HalfEdge). k.edge_id) q
+
+-- ---- each half-edge has one that stands for it
+stand_in : (S : Drawing) (e : Edge) (p : Point) (id id' : ℕ) (fs : List Edge) → HasPlainLines S → IsSplitInto S e p id id' fs → (h : HalfEdge) → Contains (half_edges S) h
+    → (k : HalfEdge) × StandsFor S e id id' fs h k
+stand_in S e p id id' fs good split h ch =
+    let r = half_of S.edges h ch in
+    ⊎_elim
+    (λ (t : (r.edge.edge_id == e.edge_id) ≡ true).
+    let is = one_edge S r.edge e good r.there split.there (eqb-true r.edge.edge_id e.edge_id t) in
+    ⊎_elim
+    (λ (q : forward_of r.edge ≡ h).
+    (forward_of (first_part e S.next_ids.node p id), subst (λ (x : HalfEdge). StandsFor S e id id' fs x (forward_of (first_part e S.next_ids.node p id))) (ap forward_of (sym is) ∙ q) (first_stands S e p id id' fs split)))
+    (λ (q : backward_of r.edge ≡ h).
+    (backward_of (second_part e S.next_ids.node p id'), subst (λ (x : HalfEdge). StandsFor S e id id' fs x (backward_of (second_part e S.next_ids.node p id'))) (ap backward_of (sym is) ∙ q) (second_stands S e p id id' fs split)))
+    r.way)
+    (λ (t : (r.edge.edge_id == e.edge_id) ≡ false).
+    (h, other_stands S e p id id' fs split r.edge h r.there (λ q. false≢true (sym t ∙ eq-eqb r.edge.edge_id e.edge_id q)) r.way))
+    (by_bool (r.edge.edge_id == e.edge_id))
+
+-- and each that leaves another node than the new one stands for one
+stood_for : (S : Drawing) (e : Edge) (p : Point) (id id' : ℕ) (fs : List Edge) → IsSplitInto S e p id id' fs → (k : HalfEdge) → Contains (flat_map both_ways fs) k → (k.from_node ≡ S.next_ids.node → ⊥)
+    → (h : HalfEdge) × StandsFor S e id id' fs h k
+stood_for S e p id id' fs split k ck far =
+    let r = half_of fs k ck in
+    ⊎_elim
+    (λ (old : Contains S.edges r.edge × (r.edge.edge_id ≡ e.edge_id → ⊥)). (k, other_stands S e p id id' fs split r.edge k old.0 old.1 r.way))
+    (λ (part : (first_part e S.next_ids.node p id ≡ r.edge) ⊎ (second_part e S.next_ids.node p id' ≡ r.edge)).
+    ⊎_elim
+    (λ (is : first_part e S.next_ids.node p id ≡ r.edge).
+    ⊎_elim
+    (λ (q : forward_of r.edge ≡ k). (forward_of e, subst (StandsFor S e id id' fs (forward_of e)) (ap forward_of is ∙ q) (first_stands S e p id id' fs split)))
+    (λ (q : backward_of r.edge ≡ k). absurd (far (sym (node_of (ap backward_of is ∙ q)))))
+    r.way)
+    (λ (is : second_part e S.next_ids.node p id' ≡ r.edge).
+    ⊎_elim
+    (λ (q : forward_of r.edge ≡ k). absurd (far (sym (node_of (ap forward_of is ∙ q)))))
+    (λ (q : backward_of r.edge ≡ k). (backward_of e, subst (StandsFor S e id id' fs (backward_of e)) (ap backward_of is ∙ q) (second_stands S e p id id' fs split)))
+    r.way)
+    part)
+    (split.from r.edge r.there)
+
+-- ---- what is next stays next
+lone : (S : Drawing) → IsPlainInOrder S → HasPlainLines S → is_isolated S S.next_ids.node ≡ true
+lone S ordered good = new_isolated S ordered good
+
+turns_over : (S : Drawing) (e : Edge) (p : Point) (id id' : ℕ) (fs : List Edge) (rows : List RelationRow) (ids : Counters) → IsSplitOf S e p id id' fs rows ids → (t s t' s' : HalfEdge)
+    → Turns (half_edges S) t s → StandsFor S e id id' fs t t' → StandsFor S e id id' fs s s' → Turns (flat_map both_ways fs) t' s'
+turns_over S e p id id' fs rows ids h t s t' s' turn a b = record {
+  first = a.new;
+  second = b.new;
+  one_node = sym b.like.node ∙ turn.one_node ∙ a.like.node;
+  none_between = λ k ck from other.
+      let (g, c) = stood_for S e p id id' fs h.split k ck (λ q. far (sym from ∙ q)) in
+      sym (near_alike (leaving t) (leaving t') (leaving g) (leaving k) (leaving s) (leaving s') a.like.way c.like.way b.like.way)
+      ∙ turn.none_between g c.there (c.like.node ∙ from ∙ sym a.like.node) (λ q. other (other_like (flat_map both_ways fs) t k t' after ck a.new (subst (λ (z : HalfEdge). IsLike z k) q c.like) a.like));
+  alone = λ q k ck from.
+      let (g, c) = stood_for S e p id id' fs h.split k ck (λ r. far (sym from ∙ r)) in
+      let same : s ≡ t = one_like (half_edges S) s t t' before b.there a.there (subst (IsLike s) q b.like) a.like in
+      let is : g ≡ t = turn.alone same g c.there (c.like.node ∙ from ∙ sym a.like.node) in
+      other_like (flat_map both_ways fs) t k t' after ck a.new (subst (λ (z : HalfEdge). IsLike z k) is c.like) a.like;
+}
+  where
+    before : AreSpread (half_edges S)
+    before = spread_of S h.lines
+
+    after : AreSpread (flat_map both_ways fs)
+    after = spread_of (split_with S p fs rows ids) h.more
+
+    far : t'.from_node ≡ S.next_ids.node → ⊥
+    far q = none_leaves S S.next_ids.node (lone S h.ordered h.lines) t a.there (a.like.node ∙ q)
+
+-- what follows is what followed, by its new name
+pub next_renamed : (S : Drawing) (e : Edge) (p : Point) (id id' : ℕ) (fs : List Edge) (rows : List RelationRow) (ids : Counters) → IsSplitOf S e p id id' fs rows ids → (h t : HalfEdge) → Contains (half_edges S) h
+    → StandsFor S e id id' fs (twin h) t → dart_of (next_of (flat_map both_ways fs) (twin t)) ≡ renamed e.edge_id id id' (dart_of (next_of (half_edges S) h))
+next_renamed S e p id id' fs rows ids g h t ch stands =
+    let turn = next_turns S h g.lines ch in
+    let (k, s) = stand_in S e p id id' fs g.lines g.split (next_of (half_edges S) h) turn.second in
+    ap dart_of (turns_next (split_with S p fs rows ids) t k g.more (turns_over S e p id id' fs rows ids g (twin h) (next_of (half_edges S) h) t k turn stands s)) ∙ s.name
+
+-- ---- at the new node
+at_new : (S : Drawing) (e : Edge) (p : Point) (id id' : ℕ) (fs : List Edge) (rows : List RelationRow) (ids : Counters) → IsSplitOf S e p id id' fs rows ids → (k : HalfEdge) → Contains (flat_map both_ways fs) k → k.from_node ≡ S.next_ids.node
+    → (backward_of (first_part e S.next_ids.node p id) ≡ k) ⊎ (forward_of (second_part e S.next_ids.node p id') ≡ k)
+at_new S e p id id' fs rows ids h k ck at =
+    let r = half_of fs k ck in
+    let alone = lone S h.ordered h.lines in
+    let not_end : is_end_of S.next_ids.node e ≡ true → ⊥ = none_ends S S.next_ids.node alone e h.split.there in
+    ⊎_elim
+    (λ (old : Contains S.edges r.edge × (r.edge.edge_id ≡ e.edge_id → ⊥)). absurd (none_leaves S S.next_ids.node alone k (half_there S.edges k r.edge old.0 r.way) at))
+    (λ (part : (first_part e S.next_ids.node p id ≡ r.edge) ⊎ (second_part e S.next_ids.node p id' ≡ r.edge)).
+    ⊎_elim
+    (λ (is : first_part e S.next_ids.node p id ≡ r.edge).
+    ⊎_elim
+    (λ (q : forward_of r.edge ≡ k). absurd (not_end (or_left (e.start_node == S.next_ids.node) (e.end_node == S.next_ids.node) (eq-eqb e.start_node S.next_ids.node (node_of (ap forward_of is ∙ q) ∙ at)))))
+    (λ (q : backward_of r.edge ≡ k). inl (ap backward_of is ∙ q))
+    r.way)
+    (λ (is : second_part e S.next_ids.node p id' ≡ r.edge).
+    ⊎_elim
+    (λ (q : forward_of r.edge ≡ k). inr (ap forward_of is ∙ q))
+    (λ (q : backward_of r.edge ≡ k). absurd (not_end (or_right (e.start_node == S.next_ids.node) (e.end_node == S.next_ids.node) (eq-eqb e.end_node S.next_ids.node (node_of (ap backward_of is ∙ q) ∙ at)))))
+    r.way)
+    part)
+    (h.split.from r.edge r.there)
+
+-- one of two turns to the other
+two_turn : (hs : List HalfEdge) (t s : HalfEdge) → Contains hs t → Contains hs s → s.from_node ≡ t.from_node → (s ≡ t → ⊥) → ((k : HalfEdge) → Contains hs k → k.from_node ≡ t.from_node → (t ≡ k) ⊎ (s ≡ k)) → Turns hs t s
+two_turn hs t s ct cs one differ two = record {
+  first = ct;
+  second = cs;
+  one_node = one;
+  none_between = λ k ck from other.
+      ⊎_elim
+      (λ (q : t ≡ k). absurd (other (sym q)))
+      (λ (q : s ≡ k). subst (λ (z : HalfEdge). is_nearer (leaving t) (leaving z) (leaving s) ≡ false) q (nearer_self (leaving t) (leaving s)))
+      (two k ck from);
+  alone = λ q k ck from. absurd (differ q);
+}
+
+swapped : {A B : Type 0} → A ⊎ B → B ⊎ A
+swapped (inl a) = inr a
+swapped (inr b) = inl b
+
+-- the second part follows the first
+pub first_goes_on : (S : Drawing) (e : Edge) (p : Point) (id id' : ℕ) (fs : List Edge) (rows : List RelationRow) (ids : Counters) → IsSplitOf S e p id id' fs rows ids
+    → dart_of (next_of (flat_map both_ways fs) (forward_of (first_part e S.next_ids.node p id))) ≡ record { edge = id'; forward = true }
+first_goes_on S e p id id' fs rows ids h =
+    let one = first_part e S.next_ids.node p id in
+    let two = second_part e S.next_ids.node p id' in
+    let turn = two_turn (flat_map both_ways fs) (backward_of one) (forward_of two) (backward_there fs one h.split.first) (forward_there fs two h.split.second) refl
+    (λ q. false≢true (sym (ap (λ (z : HalfEdge). z.is_forward) q))) (λ k ck from. at_new S e p id id' fs rows ids h k ck from) in
+    ap (λ (z : HalfEdge). dart_of (next_of (flat_map both_ways fs) z)) (twin_back one)
+    ∙ ap dart_of (turns_next (split_with S p fs rows ids) (backward_of one) (forward_of two) h.more turn)
+
+-- and, walked back, the first the second
+pub second_goes_back : (S : Drawing) (e : Edge) (p : Point) (id id' : ℕ) (fs : List Edge) (rows : List RelationRow) (ids : Counters) → IsSplitOf S e p id id' fs rows ids
+    → dart_of (next_of (flat_map both_ways fs) (backward_of (second_part e S.next_ids.node p id'))) ≡ record { edge = id; forward = false }
+second_goes_back S e p id id' fs rows ids h =
+    let one = first_part e S.next_ids.node p id in
+    let two = second_part e S.next_ids.node p id' in
+    let turn = two_turn (flat_map both_ways fs) (forward_of two) (backward_of one) (forward_there fs two h.split.second) (backward_there fs one h.split.first) refl
+    (λ q. false≢true (ap (λ (z : HalfEdge). z.is_forward) q)) (λ k ck from. swapped (at_new S e p id id' fs rows ids h k ck from)) in
+    ap dart_of (turns_next (split_with S p fs rows ids) (forward_of two) (backward_of one) h.more turn)
+
+-- ---- the links
+-- of another edge
+pub other_links : (S : Drawing) (e : Edge) (p : Point) (id id' : ℕ) (fs : List Edge) (rows : List RelationRow) (ids : Counters) → IsSplitOf S e p id id' fs rows ids → (x : Edge) → Contains S.edges x → (x.edge_id ≡ e.edge_id → ⊥)
+    → (dart_of (next_of (flat_map both_ways fs) (forward_of x)) ≡ renamed e.edge_id id id' (dart_of (next_of (half_edges S) (forward_of x))))
+    × (dart_of (next_of (flat_map both_ways fs) (backward_of x)) ≡ renamed e.edge_id id id' (dart_of (next_of (half_edges S) (backward_of x))))
+other_links S e p id id' fs rows ids h x c other =
+    let on = next_renamed S e p id id' fs rows ids h (forward_of x) (backward_of x) (forward_there S.edges x c) (other_stands S e p id id' fs h.split x (backward_of x) c other (inr refl)) in
+    let stands = subst (λ (z : HalfEdge). StandsFor S e id id' fs z (forward_of x)) (twin_back x) (other_stands S e p id id' fs h.split x (forward_of x) c other (inl refl)) in (
+      ap (λ (z : HalfEdge). dart_of (next_of (flat_map both_ways fs) z)) (twin_back x) ∙ on,
+      next_renamed S e p id id' fs rows ids h (backward_of x) (forward_of x) (backward_there S.edges x c) stands,
+    )
+
+-- of the second part, and of the first part walked back
+pub second_goes_on : (S : Drawing) (e : Edge) (p : Point) (id id' : ℕ) (fs : List Edge) (rows : List RelationRow) (ids : Counters) → IsSplitOf S e p id id' fs rows ids
+    → dart_of (next_of (flat_map both_ways fs) (forward_of (second_part e S.next_ids.node p id'))) ≡ renamed e.edge_id id id' (dart_of (next_of (half_edges S) (forward_of e)))
+second_goes_on S e p id id' fs rows ids h =
+    let two = second_part e S.next_ids.node p id' in
+    ap (λ (z : HalfEdge). dart_of (next_of (flat_map both_ways fs) z)) (twin_back two)
+    ∙ next_renamed S e p id id' fs rows ids h (forward_of e) (backward_of two) (forward_there S.edges e h.split.there) (second_stands S e p id id' fs h.split)
+
+pub first_goes_back : (S : Drawing) (e : Edge) (p : Point) (id id' : ℕ) (fs : List Edge) (rows : List RelationRow) (ids : Counters) → IsSplitOf S e p id id' fs rows ids
+    → dart_of (next_of (flat_map both_ways fs) (backward_of (first_part e S.next_ids.node p id))) ≡ renamed e.edge_id id id' (dart_of (next_of (half_edges S) (backward_of e)))
+first_goes_back S e p id id' fs rows ids h =
+    let one = first_part e S.next_ids.node p id in
+    next_renamed S e p id id' fs rows ids h (backward_of e) (forward_of one) (backward_there S.edges e h.split.there)
+    (subst (λ (z : HalfEdge). StandsFor S e id id' fs z (forward_of one)) (twin_back e) (first_stands S e p id id' fs h.split))

@@ -1,0 +1,4 @@
+pub mod Renamed
+pub mod Relinks
+pub mod Writes
+pub mod Splitting
