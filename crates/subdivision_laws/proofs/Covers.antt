@@ -15,9 +15,6 @@ pub record Covers (T : Drawing) : Type 0 where
   pub outer : NoShell (steps_of T) (face_of T) 0
   pub placed : (n : NodeRow) (f : ℕ) → Contains T.nodes n → n.containing_face ≡ Some f → IsPlaced T n.geom f
 
-abbrev pub KeepsCovers : Drawing → Drawing → Type 0
-KeepsCovers S T = IsRinged T → Covers T
-
 pub covered : (T : Drawing) → IsRinged T → Covers T → IsCovered T
 covered T ringed c = record { ringed = ringed; sided = c.sided; shells = c.shells; outer = c.outer; placed = c.placed }
 

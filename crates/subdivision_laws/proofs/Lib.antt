@@ -1,6 +1,5 @@
 pub mod Covers
 pub mod NodesStay
-pub mod LayersStay
 pub mod SameSteps
 pub mod Joint
 pub mod HealsStay

@@ -3,18 +3,14 @@ use Rattle.std.proofs.Common.{◌≡◌, ℕ, refl, sym, ◌∙◌, ap, subst, �
 use Rattle.std.specs.List.{Contains}
 use Rattle.std.proofs.lemmas.Bool.{both_ways, eqb-true, eq-eqb, or_left, or_right}
 use Rattle.topo_base.specs.declared.rows.NodeRow.{NodeRow}
-use Rattle.topo_base.specs.declared.rule.Rule.TheVariants.{NotIsolated, EdgeInFeature}
 use Rattle.drawing.specs.Drawing.{Drawing, Edge, edge_id_of, is_end_of, is_isolated}
 use Rattle.drawing.specs.HalfEdge.{HalfEdge, forward_of, backward_of, half_edges}
-use Rattle.drawing.specs.IsoEdits.{is_in_feature, is_isolated_edge, put_in_face}
-use Rattle.drawing.specs.Edits.{remove_iso_edge}
+use Rattle.drawing.specs.IsoEdits.{put_in_face}
 use Rattle.plane.specs.Line.{segments_of}
-use Rattle.drawing.specs.Relations.{edge_type}
 use Rattle.drawing.specs.Rows.{without_row}
 use Rattle.plane.specs.Segment.{Segment}
-use Rattle.drawing.proofs.Keeping.{Keeps, accepted, refused, refuses_else}
 use Rattle.plane.proofs.ListTests.{some_same}
-use Rattle.edit_changes.proofs.PlainStaying.{passed}
+use Rattle.edit_changes.specs.Evidence.{LoneEdgeMayGo}
 use Rattle.face_rings.proofs.HalfLines.{begins}
 use Rattle.face_rings.proofs.HalvesApart.{half_of, backward_there, one_edge}
 use Rattle.face_rings.proofs.Ranks.{by_bool}
@@ -24,7 +20,7 @@ use Rattle.ring_laws.proofs.KnownStays.{without_edge}
 use Rattle.ring_laws.proofs.Turning.{Turns, joined_of}
 use Rattle.ring_laws.proofs.WithoutEdge.{IsAlone, alone_of, leaves_end, was_edge}
 use Rattle.face_laws.specs.Covered.{IsPlaced, IsCovered}
-use Rattle.subdivision_laws.proofs.Covers.{Covers, KeepsCovers}
+use Rattle.subdivision_laws.proofs.Covers.{Covers}
 use Rattle.subdivision_laws.proofs.GoneSteps.{with_sides, Takes, lines_before}
 use Rattle.subdivision_laws.proofs.GoneFaces.{Settled, one_settled}
 use Rattle.subdivision_laws.proofs.GoneNodes.{end_placed, node_stays, put_row, settled_covers}
@@ -64,11 +60,17 @@ same_sides [] = refl
 same_sides (e ∷ edges) = ap (λ (es : List Edge). e ∷ es) (same_sides edges)
 
 -- ---- the drawing without it
-covered_without : (S : Drawing) (e : Edge) → IsCovered S → Contains S.edges e → IsAlone S e → IsRinged (without_edge S e) → Covers (without_edge S e)
-covered_without S e c ce alone ringed =
+pub lone_edge_less : (S : Drawing) (e : Edge) → LoneEdgeMayGo S e → IsCovered S → IsRinged (without_edge S e) → Covers (without_edge S e)
+lone_edge_less S e k c ringed =
     let b = begins e.geom ((lines_before S c).long e ce) in
     by_line (record { a = b.first; b = b.second }) (segments_of (b.second ∷ b.rest)) (ap segments_of b.is)
   where
+    ce : Contains S.edges e
+    ce = k.there
+
+    alone : IsAlone S e
+    alone = alone_of S e k.lone
+
     by_line : (first : Segment) (rest : List Segment) → segments_of e.geom ≡ first ∷ rest → Covers (without_edge S e)
     by_line first rest line = settled_covers S (without_edge S e) first rest (λ m. m) e.left_face settled placed
       where
@@ -108,10 +110,3 @@ covered_without S e c ce alone ringed =
             subst (λ (x : NodeRow). IsPlaced (without_edge S e) x.geom f) (sym at.0)
             (node_stays S (without_edge S e) first rest (λ m. m) e.left_face m.row f c settled m.there (ap (λ (x : NodeRow). x.containing_face) (sym at.0) ∙ is)))
             m.is
-
-pub lone_edge_less : (S : Drawing) (e : Option Edge) → IsCovered S → ((x : Edge) → e ≡ Some x → Contains S.edges x) → Keeps KeepsCovers S (remove_iso_edge S e)
-lone_edge_less S None c ce = refused KeepsCovers S _
-lone_edge_less S (Some e) c ce =
-    refuses_else KeepsCovers S (not (is_isolated_edge S e)) NotIsolated _ (λ lone.
-    refuses_else KeepsCovers S (is_in_feature S edge_type e.edge_id) EdgeInFeature _ (λ _.
-    accepted KeepsCovers S _ (λ ringed. covered_without S e c (ce e refl) (alone_of S e (passed (is_isolated_edge S e) lone)) ringed)))
