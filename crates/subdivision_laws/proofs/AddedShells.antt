@@ -1,30 +1,17 @@
 -- An edge more that closes no ring: each face has the shells that it had.
-use Rattle.std.proofs.Common.{◌≡◌, ℕ, ◌≤◌, refl, sym, ◌∙◌, ap, subst, arith, inl, ⊎_elim, Bool, true, false, not, ◌&&◌, ◌==◌, nat_eq, List, [], ◌∷◌, length, filter, cond, Option, Some, None, unwrap_or, eq-eqb}
-use Rattle.std.specs.Option.{option_eq}
-use Rattle.std.specs.List.{Contains}
-use Rattle.std.proofs.lemmas.Bool.{and_parts, eqb-true, false≢true}
-use Rattle.topo_base.specs.Point.{Point, same_point}
+use Rattle.std.proofs.Common.{◌≡◌, ℕ, refl, sym, ◌∙◌, subst, inl, true, List, ◌∷◌}
+use Rattle.topo_base.specs.Point.{Point}
 use Rattle.topo_base.specs.declared.rows.NodeRow.{NodeRow}
-use Rattle.drawing.specs.Blocked.{is_line_blocked, goes_between}
-use Rattle.drawing.specs.Drawing.{Drawing, is_isolated}
-use Rattle.drawing.specs.HalfEdge.{HalfEdge, forward_of, backward_of, half_edges, twin, leaves, same_half_edge, dart_of}
-use Rattle.plane.specs.Line.{is_simple, last_vertex}
+use Rattle.drawing.specs.Drawing.{Drawing}
+use Rattle.drawing.specs.HalfEdge.{forward_of, backward_of}
 use Rattle.drawing.specs.Ring.{contains_half_edge}
 use Rattle.edit_changes.specs.Evidence.{left_ring}
-use Rattle.drawing.specs.Star.{next_of, or_twin, first_clockwise, leaving}
 use Rattle.plane.specs.Crossings.{back}
-use Rattle.plane.proofs.ListTests.{contains_here, contains_there, contains_cases, Decides-any}
-use Rattle.face_rings.proofs.Ranks.{same_self}
-use Rattle.ring_laws.specs.Ringed.{IsRinged}
-use Rattle.ring_laws.proofs.Known.{none_leaves}
-use Rattle.ring_laws.proofs.RingParts.{contains_same}
-use Rattle.ring_laws.proofs.WithEdge.{in_pushed}
 use Rattle.parity_laws.specs.Shelling.{IsRingOf, OneShell, NoShell}
-use Rattle.parity_laws.proofs.Tests.{same_is}
 use Rattle.face_laws.specs.Walked.{steps_of, is_of}
-use Rattle.face_laws.specs.Covered.{face_of, IsCovered}
+use Rattle.face_laws.specs.Covered.{face_of}
 use Rattle.face_laws.proofs.PlainSteps.{step_back}
-use Rattle.face_laws.proofs.RingLabels.{step_of_ring, own_steps, in_own_ring}
+use Rattle.face_laws.proofs.RingLabels.{step_of_ring, own_steps}
 use Rattle.parity_laws.proofs.LineShells.{OpenLine, one_shell_stays, no_shell_stays}
 use Rattle.face_laws.proofs.ShellTests.{ring_of_label}
 use Rattle.subdivision_laws.proofs.Covers.{Covers}

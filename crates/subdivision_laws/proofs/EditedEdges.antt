@@ -1,12 +1,12 @@
 -- The edges after a split, and after two edges are healed.
-use Rattle.std.proofs.Common.{◌⊎◌, ◌≡◌, ℕ, refl, sym, ◌∙◌, subst, inl, ⊎_elim, Bool, true, false, not, cond, ◌&&◌, ◌||◌, ◌==◌, List, [], ◌∷◌, Some, ◌+◌, ◌++◌, ap, inr}
+use Rattle.std.proofs.Common.{◌⊎◌, ◌≡◌, ℕ, refl, sym, ◌∙◌, subst, inl, ⊎_elim, Bool, true, false, not, cond, ◌&&◌, ◌==◌, List, [], ◌∷◌, ◌+◌, ◌++◌, ap, inr}
 use Rattle.std.specs.List.{Contains, list_any}
 use Rattle.std.proofs.lemmas.Bool.{and_parts, eqb-true, false≢true, not-true, false_from_ne_true, eq-eqb, and_from, or_left, or_right}
 use Rattle.std.proofs.lemmas.List.Elements.{Contains-push_cases, Contains-push, Contains-append_left, Contains-append_right}
 use Rattle.topo_base.specs.Point.{Point}
 use Rattle.drawing.specs.Drawing.{Drawing, Edge, edge_id_of, is_end_of, has_only}
 use Rattle.plane.specs.Line.{on_line, first_vertex, last_vertex, is_line_end}
-use Rattle.drawing.proofs.Members.{ids_differ, contains-map, contains-mapped, contains-filtered}
+use Rattle.drawing.proofs.Members.{ids_differ, contains-map, contains-mapped}
 use Rattle.edit_changes.specs.Evidence.{EdgeMayBeCut, EdgesMayBeJoined}
 use Rattle.edit_changes.proofs.PlainHealing.{is_open}
 use Rattle.face_rings.proofs.HalfLines.{HasPlainLines}
@@ -16,7 +16,7 @@ use Rattle.ring_laws.proofs.WithoutEdge.{was_edge, kept_edge}
 use Rattle.drawing.specs.Rows.{without_row, with_change}
 use Rattle.drawing.specs.SplitEdge.{first_part, second_part}
 use Rattle.drawing.specs.HealEdges.{joined_edge}
-use Rattle.plane.proofs.ListTests.{contains_here, contains_there, contains_cases, contains_none}
+use Rattle.plane.proofs.ListTests.{contains_here, contains_there}
 use Rattle.drawing.proofs.PlainSplits.{from_changed, from_both}
 use Rattle.plane.proofs.LineTests.{at_from, Decides-inside_line}
 use Rattle.ring_laws.proofs.SplitSides.{IsSplitInto}

@@ -1,5 +1,5 @@
 -- Edges that are healed: the steps are the same, with the same faces beside them.
-use Rattle.std.proofs.Common.{◌≡◌, ℕ, ◌≤◌, sym, ◌∙◌, ap, subst, refl, ◌⊎◌, inl, inr, ⊎_elim, Bool, not, ◌||◌, ◌==◌, List, ◌∷◌, ◌++◌, length, Option, Some, None, Ok}
+use Rattle.std.proofs.Common.{◌≡◌, ℕ, ◌≤◌, sym, ◌∙◌, ap, subst, refl, ◌⊎◌, inl, inr, ⊎_elim, not, ◌==◌, List, ◌∷◌, ◌++◌, length}
 use Rattle.std.specs.Prelude.{reverse}
 use Rattle.std.specs.List.{Contains}
 use Rattle.std.proofs.lemmas.List.{length-reverse}
@@ -26,10 +26,10 @@ use Rattle.ring_laws.proofs.Turning.{joined_of}
 use Rattle.parity_laws.specs.Rings.{In}
 use Rattle.face_laws.specs.Walked.{steps_along}
 use Rattle.face_laws.specs.Covered.{IsCovered}
-use Rattle.face_laws.proofs.Lists.{in_front, in_behind, in_either}
 use Rattle.face_laws.proofs.LineSteps.{in_reverse, from_reverse}
 use Rattle.subdivision_laws.proofs.Covers.{Covers}
 use Rattle.subdivision_laws.proofs.SameSteps.{CarriesOver, covers_after, AreStepsOf, own_steps, steps_forward, LiesAlong, same_steps}
+use Rattle.parity_laws.proofs.Lists.{in_left, in_right, in_cases}
 
 -- ---- the steps of a joined line
 joined_segments : (a b : List Point) → 2 ≤ length a → 2 ≤ length b → last_vertex a ≡ first_vertex b → segments_of (joined a b) ≡ segments_of a ++ segments_of b
@@ -48,9 +48,9 @@ along_both : (a b c : HalfEdge) → 2 ≤ length b.points → 2 ≤ length c.poi
 along_both a b c h k e is =
     let whole : segments_of a.points ≡ segments_of b.points ++ segments_of c.points = ap segments_of is ∙ joined_segments b.points c.points h k e in
     record {
-      steps = λ s i. in_either s (segments_of b.points) (segments_of c.points) (subst (In s) whole i);
-      of_first = λ s i. subst (In s) (sym whole) (in_front s (segments_of b.points) (segments_of c.points) i);
-      of_second = λ s i. subst (In s) (sym whole) (in_behind s (segments_of b.points) (segments_of c.points) i);
+      steps = λ s i. in_cases s (segments_of b.points) (segments_of c.points) (subst (In s) whole i);
+      of_first = λ s i. subst (In s) (sym whole) (in_left s (segments_of b.points) (segments_of c.points) i);
+      of_second = λ s i. subst (In s) (sym whole) (in_right s (segments_of b.points) (segments_of c.points) i);
     }
 
 -- a step of one of the two half-edges of x, walked back, is one of the other

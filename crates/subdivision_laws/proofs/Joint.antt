@@ -2,7 +2,7 @@
 use Rattle.std.proofs.Common.{◌≡◌, ℕ, ◌≤◌, refl, sym, ◌∙◌, ap, subst, arith, ◌⊎◌, inl, inr, ⊎_elim, Bool, true, false, cond, List, [], ◌∷◌, ◌++◌, length}
 use Rattle.std.specs.Prelude.{reverse, flat_map, ◌==◌}
 use Rattle.std.specs.List.{Contains}
-use Rattle.std.proofs.lemmas.Bool.{or_left, or_right, eqb-true, eq-eqb, false≢true}
+use Rattle.std.proofs.lemmas.Bool.{eqb-true, eq-eqb, false≢true}
 use Rattle.std.proofs.lemmas.List.{length-append, length-reverse, reverse-reverse}
 use Rattle.topo_base.specs.Point.{Point}
 use Rattle.plane.specs.Direction.{first_direction, is_nearer}
@@ -85,29 +85,6 @@ first_there edges x h k c (inr b) = subst (Contains (flat_map both_ways edges)) 
 pub second_there : (edges : List Edge) (x : Edge) (h k : HalfEdge) → Contains edges x → AreBoth x h k → Contains (flat_map both_ways edges) k
 second_there edges x h k c (inl b) = subst (Contains (flat_map both_ways edges)) b.1 (backward_there edges x c)
 second_there edges x h k c (inr b) = subst (Contains (flat_map both_ways edges)) b.1 (forward_there edges x c)
-
-pub end_of_both : (x : Edge) (h k : HalfEdge) (m : ℕ) → AreBoth x h k → is_end_of m x ≡ true → (h.from_node ≡ m) ⊎ (k.from_node ≡ m)
-end_of_both x h k m b t = by_way b (end_is m x t)
-  where
-    by_way : AreBoth x h k → (x.start_node ≡ m) ⊎ (x.end_node ≡ m) → (h.from_node ≡ m) ⊎ (k.from_node ≡ m)
-    by_way (inl b) (inl p) = inl (ap (λ (z : HalfEdge). z.from_node) (sym b.0) ∙ p)
-    by_way (inl b) (inr p) = inr (ap (λ (z : HalfEdge). z.from_node) (sym b.1) ∙ p)
-    by_way (inr b) (inl p) = inr (ap (λ (z : HalfEdge). z.from_node) (sym b.1) ∙ p)
-    by_way (inr b) (inr p) = inl (ap (λ (z : HalfEdge). z.from_node) (sym b.0) ∙ p)
-
-start_end : (x : Edge) (m : ℕ) → x.start_node ≡ m → is_end_of m x ≡ true
-start_end x m p = or_left (x.start_node == m) (x.end_node == m) (eq-eqb x.start_node m p)
-
-end_end : (x : Edge) (m : ℕ) → x.end_node ≡ m → is_end_of m x ≡ true
-end_end x m p = or_right (x.start_node == m) (x.end_node == m) (eq-eqb x.end_node m p)
-
-pub first_ends : (x : Edge) (h k : HalfEdge) → AreBoth x h k → is_end_of h.from_node x ≡ true
-first_ends x h k (inl b) = start_end x h.from_node (ap (λ (z : HalfEdge). z.from_node) b.0)
-first_ends x h k (inr b) = end_end x h.from_node (ap (λ (z : HalfEdge). z.from_node) b.0)
-
-pub second_ends : (x : Edge) (h k : HalfEdge) → AreBoth x h k → is_end_of k.from_node x ≡ true
-second_ends x h k (inl b) = end_end x k.from_node (ap (λ (z : HalfEdge). z.from_node) b.1)
-second_ends x h k (inr b) = start_end x k.from_node (ap (λ (z : HalfEdge). z.from_node) b.1)
 
 -- the half-edge up to the node and the one from it on, and the two half-edges of the joined edge
 pub record Joint (S : Drawing) (n : ℕ) (e f : Edge) (J : Edge) : Type 0 where

@@ -1,5 +1,5 @@
 -- An isolated edge that goes.
-use Rattle.std.proofs.Common.{◌≡◌, ℕ, refl, sym, ◌∙◌, ap, subst, ◌⊎◌, ⊎_elim, true, false, not, ◌==◌, List, [], ◌∷◌, map, Option, Some, None}
+use Rattle.std.proofs.Common.{◌≡◌, ℕ, refl, sym, ◌∙◌, ap, subst, ◌⊎◌, ⊎_elim, true, false, ◌==◌, List, [], ◌∷◌, map, Some}
 use Rattle.std.specs.List.{Contains}
 use Rattle.std.proofs.lemmas.Bool.{both_ways, eqb-true, eq-eqb, or_left, or_right}
 use Rattle.topo_base.specs.declared.rows.NodeRow.{NodeRow}
@@ -19,7 +19,7 @@ use Rattle.ring_laws.proofs.Known.{isolated_if, put_twice}
 use Rattle.ring_laws.proofs.KnownStays.{without_edge}
 use Rattle.ring_laws.proofs.Turning.{Turns, joined_of}
 use Rattle.ring_laws.proofs.WithoutEdge.{IsAlone, alone_of, leaves_end, was_edge}
-use Rattle.face_laws.specs.Covered.{IsPlaced, IsCovered}
+use Rattle.face_laws.specs.Covered.{IsInFaceOf, IsCovered}
 use Rattle.subdivision_laws.proofs.Covers.{Covers}
 use Rattle.subdivision_laws.proofs.GoneSteps.{with_sides, Takes, lines_before}
 use Rattle.subdivision_laws.proofs.GoneFaces.{Settled, one_settled}
@@ -98,15 +98,15 @@ lone_edge_less S e k c ringed =
             let was = was_edge S.edges e x cx in
             ⊎_elim (λ (p : n ≡ e.start_node). alone.at_start x was.0 was.1 (subst (λ m. is_end_of m x ≡ true) p t)) (λ (p : n ≡ e.end_node). alone.at_end x was.0 was.1 (subst (λ m. is_end_of m x ≡ true) p t)) at)
 
-        placed : (n : NodeRow) (f : ℕ) → Contains (without_edge S e).nodes n → n.containing_face ≡ Some f → IsPlaced (without_edge S e) n.geom f
+        placed : (n : NodeRow) (f : ℕ) → Contains (without_edge S e).nodes n → n.containing_face ≡ Some f → IsInFaceOf (without_edge S e) n.geom f
         placed n f i is =
             let m = put_twice (Some e.left_face) e.start_node e.end_node S.nodes n i in
             let r = end_row n i in
             ⊎_elim
             (λ (at : (n.containing_face ≡ Some e.left_face) × ((n.node_id ≡ e.start_node) ⊎ (n.node_id ≡ e.end_node))).
-            subst (IsPlaced (without_edge S e) n.geom) (some_same e.left_face f (sym at.0 ∙ is))
+            subst (IsInFaceOf (without_edge S e) n.geom) (some_same e.left_face f (sym at.0 ∙ is))
             (end_placed S (without_edge S e) e first rest (λ m. m) e.left_face r.0 n takes settled r.1.0 i r.1.1.1 (subst (λ k. is_end_of k e ≡ true) r.1.1.0 (is_end n.node_id at.1)) (lone n.node_id at.1)))
             (λ (at : (n ≡ m.row) × (n.node_id ≡ e.start_node → ⊥) × (n.node_id ≡ e.end_node → ⊥)).
-            subst (λ (x : NodeRow). IsPlaced (without_edge S e) x.geom f) (sym at.0)
+            subst (λ (x : NodeRow). IsInFaceOf (without_edge S e) x.geom f) (sym at.0)
             (node_stays S (without_edge S e) first rest (λ m. m) e.left_face m.row f c settled m.there (ap (λ (x : NodeRow). x.containing_face) (sym at.0) ∙ is)))
             m.is

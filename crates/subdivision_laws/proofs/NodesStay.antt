@@ -14,7 +14,7 @@ use Rattle.plane.proofs.ListTests.{some_same}
 use Rattle.drawing.proofs.Members.{contains-mapped, contains-filtered, pairwise-same}
 use Rattle.edit_changes.specs.Evidence.{NodeMayCome, NodeMayMove}
 use Rattle.face_rings.proofs.FaceBorders.{has_plain_lines}
-use Rattle.face_laws.specs.Covered.{IsPlaced, IsCovered}
+use Rattle.face_laws.specs.Covered.{IsInFaceOf, IsCovered}
 use Rattle.face_laws.proofs.Covering.{sides_of, point_placed}
 use Rattle.subdivision_laws.proofs.Covers.{Covers}
 
@@ -30,10 +30,10 @@ node_more S face p k c = record {
       (Contains-push_cases S.nodes (record { node_id = S.next_ids.node; containing_face = Some face; geom = p }) n i);
 }
   where
-    at_new : (n : NodeRow) (f : ℕ) → record { node_id = S.next_ids.node; containing_face = Some face; geom = p } ≡ n → n.containing_face ≡ Some f → IsPlaced S n.geom f
+    at_new : (n : NodeRow) (f : ℕ) → record { node_id = S.next_ids.node; containing_face = Some face; geom = p } ≡ n → n.containing_face ≡ Some f → IsInFaceOf S n.geom f
     at_new n f new e =
-        subst (λ (q : Point). IsPlaced S q f) (ap (λ (m : NodeRow). m.geom) new)
-        (subst (IsPlaced S p) (k.lies ∙ some_same face f (ap (λ (m : NodeRow). m.containing_face) new ∙ e)) (point_placed S p (sides_of S c)))
+        subst (λ (q : Point). IsInFaceOf S q f) (ap (λ (m : NodeRow). m.geom) new)
+        (subst (IsInFaceOf S p) (k.lies ∙ some_same face f (ap (λ (m : NodeRow). m.containing_face) new ∙ e)) (point_placed S p (sides_of S c)))
 
 pub same_face : (o : Option ℕ) (g : ℕ) → option_eq nat_eq o (Some g) ≡ true → o ≡ Some g
 same_face None g e = cc
@@ -54,12 +54,12 @@ node_elsewhere S n p k c = record {
   placed = λ m f i e. let r = contains-mapped (λ (row : NodeRow). cond (node_id_of row == n.node_id) (record row { geom = p }) row) m S.nodes i in moved m f r.0 r.1.0 r.1.1 e;
 }
   where
-    moved : (m : NodeRow) (f : ℕ) (row : NodeRow) → Contains S.nodes row → cond (node_id_of row == n.node_id) (record row { geom = p }) row ≡ m → m.containing_face ≡ Some f → IsPlaced S m.geom f
+    moved : (m : NodeRow) (f : ℕ) (row : NodeRow) → Contains S.nodes row → cond (node_id_of row == n.node_id) (record row { geom = p }) row ≡ m → m.containing_face ≡ Some f → IsInFaceOf S m.geom f
     moved m f row i is e = by_test (node_id_of row == n.node_id) refl is
       where
-        by_test : (b : Bool) → (node_id_of row == n.node_id) ≡ b → cond b (record row { geom = p }) row ≡ m → IsPlaced S m.geom f
-        by_test true t is = subst (λ (q : Point). IsPlaced S q f) (ap (λ (x : NodeRow). x.geom) is) (subst (IsPlaced S p) (some_same (face_at S p) f (sym k.lies ∙ ap (λ (x : NodeRow). x.containing_face) (sym (one_node S n row c k.there i t)) ∙ ap (λ (x : NodeRow). x.containing_face) is ∙ e)) (point_placed S p (sides_of S c)))
-        by_test false t is = subst (λ (q : Point). IsPlaced S q f) (ap (λ (x : NodeRow). x.geom) is) (c.placed row f i (ap (λ (x : NodeRow). x.containing_face) is ∙ e))
+        by_test : (b : Bool) → (node_id_of row == n.node_id) ≡ b → cond b (record row { geom = p }) row ≡ m → IsInFaceOf S m.geom f
+        by_test true t is = subst (λ (q : Point). IsInFaceOf S q f) (ap (λ (x : NodeRow). x.geom) is) (subst (IsInFaceOf S p) (some_same (face_at S p) f (sym k.lies ∙ ap (λ (x : NodeRow). x.containing_face) (sym (one_node S n row c k.there i t)) ∙ ap (λ (x : NodeRow). x.containing_face) is ∙ e)) (point_placed S p (sides_of S c)))
+        by_test false t is = subst (λ (q : Point). IsInFaceOf S q f) (ap (λ (x : NodeRow). x.geom) is) (c.placed row f i (ap (λ (x : NodeRow). x.containing_face) is ∙ e))
 
 pub node_less : (S : Drawing) (n : NodeRow) → IsCovered S → Covers (record S { nodes = without_row node_id_of S.nodes n.node_id })
 node_less S n c = record {

@@ -7,7 +7,7 @@ use Rattle.topo_base.specs.Point.{Point}
 use Rattle.topo_base.specs.declared.rows.NodeRow.{NodeRow}
 use Rattle.drawing.specs.AddEdge.{Division, divided, keeps_left, one_new, two_new}
 use Rattle.drawing.specs.Drawing.{Drawing, node_id_of, edge_id_of, layer_id_of, feature_id_of, has_face}
-use Rattle.drawing.specs.HalfEdge.{HalfEdge, forward_of, backward_of, half_edges}
+use Rattle.drawing.specs.HalfEdge.{forward_of, backward_of, half_edges}
 use Rattle.drawing.specs.Ring.{contains_half_edge, is_shell}
 use Rattle.edit_changes.specs.Evidence.{left_ring, right_ring}
 use Rattle.plane.specs.Segment.{Segment}

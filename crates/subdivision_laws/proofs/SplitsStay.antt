@@ -1,5 +1,5 @@
 -- Edges that are split: the steps are the same, or one of them is cut.
-use Rattle.std.proofs.Common.{◌≡◌, ℕ, refl, sym, ◌∙◌, ap, subst, append_assoc, ◌⊎◌, ⊎_elim, Bool, not, List, [], ◌∷◌, ◌++◌, Option, Some, None, ◌+◌, Ok}
+use Rattle.std.proofs.Common.{◌≡◌, ℕ, refl, sym, ◌∙◌, ap, subst, append_assoc, ◌⊎◌, ⊎_elim, List, [], ◌∷◌, ◌++◌}
 use Rattle.std.specs.List.{Contains}
 use Rattle.std.proofs.lemmas.Bool.Decides.{Decides-not}
 use Rattle.std.proofs.lemmas.List.Elements.{Contains-push, Contains-push_cases}
@@ -28,10 +28,10 @@ use Rattle.ring_laws.proofs.SplitSides.{IsSplitInto, split_with}
 use Rattle.parity_laws.specs.Cuts.{Inner}
 use Rattle.parity_laws.specs.Rings.{In}
 use Rattle.face_laws.specs.Covered.{IsCovered}
-use Rattle.face_laws.proofs.Lists.{in_front, in_behind, in_either}
 use Rattle.subdivision_laws.proofs.Covers.{Covers}
 use Rattle.subdivision_laws.proofs.SameSteps.{CarriesOver, covers_after, own_steps, AreStepsOf, LiesAlong, same_steps}
 use Rattle.subdivision_laws.proofs.CutEdges.{edge_or_not, inside_segment}
+use Rattle.parity_laws.proofs.Lists.{in_left, in_right, in_cases}
 
 -- ---- the point is a vertex of the line
 record AtVertex (e : Edge) (p : Point) : Type 0 where
@@ -56,10 +56,10 @@ at_vertex S e p id id' fs rows ids good split more v = same_steps S T good more 
         ⊎_elim
         (λ (is : first_part e S.next_ids.node p id ≡ x).
         subst (λ (y : Edge). AreStepsOf S (forward_of y)) is
-        (λ s i. own_steps S e split.there s (subst (In s) (sym v.whole) (in_front s v.pre v.post (subst (In s) v.first i)))))
+        (λ s i. own_steps S e split.there s (subst (In s) (sym v.whole) (in_left s v.pre v.post (subst (In s) v.first i)))))
         (λ (is : second_part e S.next_ids.node p id' ≡ x).
         subst (λ (y : Edge). AreStepsOf S (forward_of y)) is
-        (λ s i. own_steps S e split.there s (subst (In s) (sym v.whole) (in_behind s v.pre v.post (subst (In s) v.second i)))))
+        (λ s i. own_steps S e split.there s (subst (In s) (sym v.whole) (in_right s v.pre v.post (subst (In s) v.second i)))))
         part)
         (split.from x c)
 
@@ -68,7 +68,7 @@ at_vertex S e p id id' fs rows ids good split more v = same_steps S T good more 
         ⊎_elim
         (λ (k : In s v.pre). own_steps T (first_part e S.next_ids.node p id) split.first s (subst (In s) (sym v.first) k))
         (λ (k : In s v.post). own_steps T (second_part e S.next_ids.node p id') split.second s (subst (In s) (sym v.second) k))
-        (in_either s v.pre v.post (subst (In s) v.whole i))
+        (in_cases s v.pre v.post (subst (In s) v.whole i))
 
     back_along : LiesAlong T S
     back_along x c =
