@@ -3,7 +3,7 @@ use Rattle.std.proofs.Common.{◌≡◌, ℕ, refl, sym, ap, subst, ◌∙◌, i
 use Rattle.std.specs.Prelude.{nat_le, nat_eq, reverse}
 use Rattle.std.specs.List.{list_any, Contains}
 use Rattle.std.specs.Option.{option_eq}
-use Rattle.std.proofs.lemmas.Bool.{and_parts, eqb-true, eqb-false, not-true}
+use Rattle.std.proofs.lemmas.Bool.{and_parts, eqb-true, eqb-false, not-true, not-false, or_parts}
 use Rattle.topo_base.specs.Point.{Point}
 use Rattle.topo_base.specs.declared.kind.Kind.{Kind}
 use Rattle.topo_base.specs.declared.edit.Pair.{Pair}
@@ -16,6 +16,7 @@ use Rattle.topo_base.specs.declared.edit.Edit.{Edit}
 use Rattle.topo_base.specs.declared.edit.Edit.TheVariants.{AddIsoNode, MoveIsoNode, RemoveIsoNode, AddIsoEdge, RemoveIsoEdge, AddEdgeModFace, AddEdgeNewFaces, RemEdgeModFace, RemEdgeNewFace, ModEdgeSplit, NewEdgesSplit, ModEdgeHeal, NewEdgeHeal, AddLayer, CreateTopoGeom, AddElement, RemElement, DropFeature}
 use Rattle.plane.specs.Line.{is_simple, is_inside_line}
 use Rattle.drawing.specs.Drawing.{Drawing, Edge, node_id_of, edge_id_of, layer_id_of, feature_id_of, node_at, edge_at, layer_at, feature_at, is_isolated, is_end_of, has_only}
+use Rattle.drawing.specs.Rows.{row_at}
 use Rattle.drawing.specs.HalfEdge.{backward_of}
 use Rattle.drawing.specs.Ring.{contains_half_edge}
 use Rattle.plane.specs.Direction.{first_direction}
@@ -49,14 +50,6 @@ chooses : (within : Bool) (S : Drawing) (b : Bool) (c d : Decision) → (b ≡ t
 chooses within S true c d h k = h refl
 chooses within S false c d h k = k refl
 
-passed : (b : Bool) → not b ≡ false → b ≡ true
-passed true h = refl
-passed false h = absurd cc
-
-or_falses : (b c : Bool) → (b || c) ≡ false → (b ≡ false) × (c ≡ false)
-or_falses true c h = absurd cc
-or_falses false c h = (refl, h)
-
 and_false : (b c : Bool) → (b && c) ≡ false → b ≡ true → c ≡ false
 and_false true c h e = h
 and_false false c h e = absurd cc
@@ -75,11 +68,21 @@ node_found S n r e = (contains-found (λ (x : NodeRow). node_id_of x == n) r S.n
 edge_found : (S : Drawing) (n : ℕ) → Found S.edges (edge_at S n)
 edge_found S n r e = (contains-found (λ (x : Edge). edge_id_of x == n) r S.edges e).0
 
-layer_found : (S : Drawing) (n : ℕ) → Found S.layers (layer_at S n)
-layer_found S n r e = (contains-found (λ (x : LayerRow). layer_id_of x == n) r S.layers e).0
+-- the row that an id finds has that id, so that its own id finds it
+abbrev FoundAgain : {R : Type 0} → (R → ℕ) → List R → Option R → Type 0
+FoundAgain {R} id rows o = (r : R) → o ≡ Some r → row_at id rows (id r) ≡ Some r
 
-feature_found : (S : Drawing) (n : ℕ) → Found S.features (feature_at S n)
-feature_found S n r e = (contains-found (λ (x : FeatureRow). feature_id_of x == n) r S.features e).0
+found_id : {R : Type 0} (id : R → ℕ) (rows : List R) (n : ℕ) (r : R) → row_at id rows n ≡ Some r → id r ≡ n
+found_id id rows n r e = eqb-true (id r) n (contains-found (λ x. id x == n) r rows e).1
+
+found_again : {R : Type 0} (id : R → ℕ) (rows : List R) (n : ℕ) → FoundAgain id rows (row_at id rows n)
+found_again id rows n r e = ap (λ m. row_at id rows m) (found_id id rows n r e) ∙ e
+
+layer_found : (S : Drawing) (n : ℕ) → FoundAgain layer_id_of S.layers (layer_at S n)
+layer_found S n = found_again layer_id_of S.layers n
+
+feature_found : (S : Drawing) (n : ℕ) → FoundAgain feature_id_of S.features (feature_at S n)
+feature_found S n = found_again feature_id_of S.features n
 
 -- ---- nodes
 add_node : (S : Drawing) (face : Option ℕ) (p : Point) → Grounded true S (node_comes S face p)
@@ -93,18 +96,21 @@ move_node S None p there = tt
 move_node S (Some n) p there =
     refuses true S (not (is_isolated S n.node_id)) NotIsolated _ (λ lone.
     refuses true S (is_blocked_for S n.node_id p) PointBlocked _ (λ free.
-    refuses true S (not (option_eq nat_eq n.containing_face (Some (face_at S p)))) NotInFace _ (λ lies. (record {
-      there = there n refl;
-      lone = passed _ lone;
-      free = free;
-      lies = same_face n.containing_face (face_at S p) (passed _ lies);
-    }, λ _. refl))))
+    refuses true S (not (option_eq nat_eq n.containing_face (Some (face_at S p)))) NotInFace _ (λ lies. (
+      record {
+        there = there n refl;
+        lone = not-false _ lone;
+        free = free;
+        lies = same_face n.containing_face (face_at S p) (not-false _ lies);
+      },
+      λ _. refl,
+    ))))
 
 remove_node : (S : Drawing) (n : Option NodeRow) → Found S.nodes n → Grounded true S (node_goes S n)
 remove_node S None there = tt
 remove_node S (Some n) there =
     refuses true S (not (is_isolated S n.node_id)) NotIsolated _ (λ lone.
-    refuses true S (is_in_feature S node_type n.node_id) NodeInFeature _ (λ unlisted. (record { there = there n refl; lone = passed _ lone; unlisted = unlisted }, λ _. refl)))
+    refuses true S (is_in_feature S node_type n.node_id) NodeInFeature _ (λ unlisted. (record { there = there n refl; lone = not-false _ lone; unlisted = unlisted }, λ _. refl)))
 
 -- ---- edges that come
 lone_edge : (S : Drawing) (a b : Option NodeRow) (line : List Point) → Found S.nodes a → Found S.nodes b → Grounded (is_line_short line) S (lone_edge_comes S a b line)
@@ -117,19 +123,21 @@ lone_edge S (Some a) (Some b) line ca cb =
     refuses (is_line_short line) S (not (goes_between a b line)) LineEnds _ (λ ends.
     refuses (is_line_short line) S (not (is_simple line)) LineNotSimple _ (λ simple.
     refuses (is_line_short line) S (is_line_blocked S line) LineBlocked _ (λ free.
-    let both = and_parts (is_isolated S a.node_id) (is_isolated S b.node_id) (passed _ lone) in
-    (record {
-      edge = record {
-        start_there = ca a refl;
-        end_there = cb b refl;
-        ends = passed _ ends;
-        simple = passed _ simple;
-        free = free;
-        starts_in = lone_face S a (first_direction line) both.0;
-        ends_in = lone_face S b (first_direction (reverse line)) both.1 ∙ contained a.containing_face b.containing_face (passed _ same);
-      };
-      joined = lone_joined S a b line (unwrap_or a.containing_face 0) differ both.1;
-    }, λ short. short)))))))
+    let both = and_parts (is_isolated S a.node_id) (is_isolated S b.node_id) (not-false _ lone) in (
+      record {
+        edge = record {
+          start_there = ca a refl;
+          end_there = cb b refl;
+          ends = not-false _ ends;
+          simple = not-false _ simple;
+          free = free;
+          starts_in = lone_face S a (first_direction line) both.0;
+          ends_in = lone_face S b (first_direction (reverse line)) both.1 ∙ contained a.containing_face b.containing_face (not-false _ same);
+        };
+        joined = lone_joined S a b line (unwrap_or a.containing_face 0) differ both.1;
+      },
+      λ short. short,
+    )))))))
   where
     contained : (o p : Option ℕ) → option_eq nat_eq o p ≡ true → unwrap_or p 0 ≡ unwrap_or o 0
     contained None None e = refl
@@ -146,15 +154,15 @@ new_edge both S (Some a) (Some b) line ca cb =
     refuses (is_line_short line) S (not (goes_between a b line)) LineEnds _ (λ ends.
     refuses (is_line_short line) S (not (is_simple line)) LineNotSimple _ (λ simple.
     refuses (is_line_short line) S (is_line_blocked S line || not (face_at_end S b line == f)) LineBlocked _ (λ clear.
-    let free = or_falses (is_line_blocked S line) _ clear in
+    let free = or_parts (is_line_blocked S line) _ clear in
     let may : EdgeMayCome S a b line f = record {
       start_there = ca a refl;
       end_there = cb b refl;
-      ends = passed _ ends;
-      simple = passed _ simple;
+      ends = not-false _ ends;
+      simple = not-false _ simple;
       free = free.0;
       starts_in = refl;
-      ends_in = eqb-true (face_at_end S b line) f (passed _ free.1);
+      ends_in = eqb-true (face_at_end S b line) f (not-false _ free.1);
     } in
     chooses (is_line_short line) S (contains_half_edge (left_ring S a b line f) (backward_of (coming S a b line f))) _ _
     (λ joined. (record { edge = may; joined = joined }, λ short. short))
@@ -167,7 +175,7 @@ remove_lone_edge : (S : Drawing) (e : Option Edge) → Found S.edges e → Groun
 remove_lone_edge S None there = tt
 remove_lone_edge S (Some e) there =
     refuses true S (not (is_isolated_edge S e)) NotIsolated _ (λ lone.
-    refuses true S (is_in_feature S edge_type e.edge_id) EdgeInFeature _ (λ unlisted. (record { there = there e refl; lone = passed _ lone; unlisted = unlisted }, λ _. refl)))
+    refuses true S (is_in_feature S edge_type e.edge_id) EdgeInFeature _ (λ unlisted. (record { there = there e refl; lone = not-false _ lone; unlisted = unlisted }, λ _. refl)))
 
 gone_edge : (anew : Bool) (S : Drawing) (e : Option Edge) → Found S.edges e → Grounded true S (edge_goes anew S e)
 gone_edge anew S None there = tt
@@ -181,7 +189,7 @@ gone_edge anew S (Some e) there =
     (λ same. ((may, eqb-true l r same), λ _. refl))
     (λ other.
     let differ = eqb-false l r other in
-    let join : FacesMayJoin S e = record { edge = may; differ = differ; alike = passed _ (and_false (not (l == r)) _ alike (ap not other)) } in
+    let join : FacesMayJoin S e = record { edge = may; differ = differ; alike = not-false _ (and_false (not (l == r)) _ alike (ap not other)) } in
     chooses true S (l == 0) _ _
     (λ zero. ((join, inl (sym (eqb-true l 0 zero), refl), (λ q. differ (eqb-true l 0 zero ∙ sym q))), λ _. refl))
     (λ left. chooses true S (r == 0) _ _
@@ -195,7 +203,7 @@ split : (anew : Bool) (S : Drawing) (e : Option Edge) (p : Point) → Found S.ed
 split anew S None p there = tt
 split anew S (Some e) p there =
     refuses true S (not (is_inside_line p e.geom)) NotOnEdge _ (λ inside.
-    let may : EdgeMayBeCut S e p = record { there = there e refl; inside = passed _ inside } in
+    let may : EdgeMayBeCut S e p = record { there = there e refl; inside = not-false _ inside } in
     chooses true S anew (Ok (EdgeIsCutAnew e p)) (Ok (EdgeIsCut e p)) (λ _. (may, λ _. refl)) (λ _. (may, λ _. refl)))
 
 -- the node that two edges have in common
@@ -211,9 +219,9 @@ heal anew S e f None node ce cf unclosed meet = tt
 heal anew S e f (Some n) node ce cf unclosed meet =
     refuses true S (not (have_same_features S edge_type e.edge_id f.edge_id)) HealSplitsFeature _ (λ alike.
     refuses true S (is_in_feature S node_type n) NodeInFeature _ (λ unlisted.
-    let both = or_falses (is_closed e) (is_closed f) unclosed in
+    let both = or_parts (is_closed e) (is_closed f) unclosed in
     let at = at_node S e f n node in
-    let met = or_falses (e.edge_id == f.edge_id) (is_nothing (common_nodes e f)) meet in
+    let met = or_parts (e.edge_id == f.edge_id) (is_nothing (common_nodes e f)) meet in
     let may : EdgesMayBeJoined S e f n = record {
       first_there = ce;
       second_there = cf;
@@ -225,7 +233,7 @@ heal anew S e f (Some n) node ce cf unclosed meet =
       on_first = at.0;
       on_second = at.1;
       only = at.2;
-      alike = passed _ alike;
+      alike = not-false _ alike;
       unlisted = unlisted;
     } in
     chooses true S anew (Ok (EdgesAreJoinedAnew e f n)) (Ok (EdgesAreJoined e f n)) (λ _. (may, λ _. refl)) (λ _. (may, λ _. refl))))
@@ -238,13 +246,16 @@ heals anew S (Some e) (Some f) ce cf =
     refuses true S (e.edge_id == f.edge_id || is_nothing (common_nodes e f)) NotJoined _ (λ meet. heal anew S e f (healed_node S e f) refl (ce e refl) (cf f refl) unclosed meet))
 
 -- ---- layers and features
-layer_over : (S : Drawing) (name : List ℕ) (kind : Kind) (l : Option LayerRow) → is_name_taken S name ≡ false → Found S.layers l → Grounded true S (layer_comes_on name kind l)
+layer_over : (S : Drawing) (name : List ℕ) (kind : Kind) (l : Option LayerRow) → is_name_taken S name ≡ false → FoundAgain layer_id_of S.layers l → Grounded true S (layer_comes_on name kind l)
 layer_over S name kind None unnamed there = tt
 layer_over S name kind (Some l) unnamed there =
-    refuses true S (not (same_kind l.feature_type kind)) WrongKind _ (λ same. (record {
-      unnamed = unnamed;
-      stands = record { row = l; there = there l refl; id = refl; kind_is = passed _ same; level_is = refl };
-    }, λ _. refl))
+    refuses true S (not (same_kind l.feature_type kind)) WrongKind _ (λ same. (
+      record {
+        unnamed = unnamed;
+        stands = record { row = l; found = there l refl; kind_is = not-false _ same; level_is = refl };
+      },
+      λ _. refl,
+    ))
 
 layer : (S : Drawing) (name : List ℕ) (kind : Kind) (child : Option ℕ) → Grounded true S (layer_comes S name kind child)
 layer S name kind None = refuses true S (is_name_taken S name) NameTaken _ (λ unnamed. (record { unnamed = unnamed; stands = refl }, λ _. refl))
@@ -254,45 +265,50 @@ unless_none : (within : Bool) (S : Drawing) (r : Option Rule) (d : Decision) →
 unless_none within S (Some rule) d h = tt
 unless_none within S None d h = h refl
 
-feature : (S : Drawing) (l : Option LayerRow) (xs : List Pair) → Found S.layers l → Grounded (nat_le (length xs) 4096) S (feature_comes S l xs)
+feature : (S : Drawing) (l : Option LayerRow) (xs : List Pair) → FoundAgain layer_id_of S.layers l → Grounded (nat_le (length xs) 4096) S (feature_comes S l xs)
 feature S None xs there = tt
-feature S (Some l) xs there = unless_none (nat_le (length xs) 4096) S (elements_rule S l [] xs) _ (λ allowed. (record { there = there l refl; allowed = allowed }, λ short. short))
+feature S (Some l) xs there = unless_none (nat_le (length xs) 4096) S (elements_rule S l [] xs) _ (λ allowed. (record { found = there l refl; allowed = allowed }, λ short. short))
 
-element_on : (S : Drawing) (t : FeatureRow) (l : Option LayerRow) (x : Pair) → layer_at S t.layer_id ≡ l → Contains S.features t → Grounded true S (feature_lists_in S t l x)
+element_on : (S : Drawing) (t : FeatureRow) (l : Option LayerRow) (x : Pair) → layer_at S t.layer_id ≡ l → feature_at S t.feature_id ≡ Some t → Grounded true S (feature_lists_in S t l x)
 element_on S t None x is there = tt
 element_on S t (Some l) x is there =
-    let r = contains-found (λ (row : LayerRow). layer_id_of row == t.layer_id) l S.layers is in
     unless_none true S (element_rule S l x) _ (λ allowed.
-    refuses true S (is_element_listed S (row_for t.feature_id l.layer_id x)) ElementListed _ (λ unlisted. (record {
-      feature = t;
-      layer = l;
-      element = x;
-      feature_there = there;
-      layer_there = r.0;
-      layer_is = eqb-true l.layer_id t.layer_id r.1;
-      row_is = refl;
-      allowed = allowed;
-      unlisted = unlisted;
-    }, λ _. refl)))
+    refuses true S (is_element_listed S (row_for t.feature_id l.layer_id x)) ElementListed _ (λ unlisted. (
+      record {
+        feature = t;
+        layer = l;
+        element = x;
+        feature_found = there;
+        layer_found = layer_found S t.layer_id l is;
+        layer_is = found_id layer_id_of S.layers t.layer_id l is;
+        row_is = refl;
+        allowed = allowed;
+        unlisted = unlisted;
+      },
+      λ _. refl,
+    )))
 
-element : (S : Drawing) (t : Option FeatureRow) (x : Pair) → Found S.features t → Grounded true S (feature_lists S t x)
+element : (S : Drawing) (t : Option FeatureRow) (x : Pair) → FoundAgain feature_id_of S.features t → Grounded true S (feature_lists S t x)
 element S None x there = tt
 element S (Some t) x there = element_on S t (layer_at S t.layer_id) x refl (there t refl)
 
-less : (S : Drawing) (t : Option FeatureRow) (x : Pair) → Found S.features t → Grounded true S (feature_unlists S t x)
+less : (S : Drawing) (t : Option FeatureRow) (x : Pair) → FoundAgain feature_id_of S.features t → Grounded true S (feature_unlists S t x)
 less S None x there = tt
 less S (Some t) x there =
-    refuses true S (not (is_element_listed S (row_for t.feature_id t.layer_id x))) ElementNotListed _ (λ listed. (record {
-      feature = t;
-      element = x;
-      feature_there = there t refl;
-      row_is = refl;
-      listed = passed _ listed;
-    }, λ _. refl))
+    refuses true S (not (is_element_listed S (row_for t.feature_id t.layer_id x))) ElementNotListed _ (λ listed. (
+      record {
+        feature = t;
+        element = x;
+        feature_found = there t refl;
+        row_is = refl;
+        listed = not-false _ listed;
+      },
+      λ _. refl,
+    ))
 
-gone_feature : (S : Drawing) (t : Option FeatureRow) → Found S.features t → Grounded true S (feature_goes S t)
+gone_feature : (S : Drawing) (t : Option FeatureRow) → FoundAgain feature_id_of S.features t → Grounded true S (feature_goes S t)
 gone_feature S None there = tt
-gone_feature S (Some t) there = refuses true S (list_any (lists_feature S t.feature_id) S.relations) FeatureUsed _ (λ unused. (record { there = there t refl; unused = unused }, λ _. refl))
+gone_feature S (Some t) there = refuses true S (list_any (lists_feature S t.feature_id) S.relations) FeatureUsed _ (λ unused. (record { found = there t refl; unused = unused }, λ _. refl))
 
 -- ---- each edit
 grounded : (S : Drawing) (e : Edit) → Grounded (keeps_limits e) S (decide S e)

@@ -1,7 +1,7 @@
 -- An edge that comes between two isolated nodes: it lies in the face of its nodes, and closes no ring.
 use Rattle.std.proofs.Common.{◌≡◌, ℕ, zero, suc, ◌≤◌, refl, sym, ap, subst, ◌∙◌, arith, Bool, true, false, cond, not, ◌&&◌, ◌||◌, ◌==◌, List, [], ◌∷◌, ◌++◌, length, filter, flat_map, append-nil, unwrap_or}
 use Rattle.std.specs.List.{list_any}
-use Rattle.std.proofs.lemmas.Bool.{eq-eqb, not-true}
+use Rattle.std.proofs.lemmas.Bool.{eq-eqb, not-true, or_parts, or_right, and_right, not_from_true}
 use Rattle.topo_base.specs.Point.{Point}
 use Rattle.topo_base.specs.declared.rows.NodeRow.{NodeRow}
 use Rattle.drawing.specs.Drawing.{Drawing, Edge, is_end_of, is_isolated}
@@ -14,19 +14,6 @@ use Rattle.drawing.specs.IsoEdits.{with_edge}
 use Rattle.drawing.specs.AddEdge.{coming}
 use Rattle.edit_changes.specs.Evidence.{left_ring}
 
-or_false : (b c : Bool) → (b || c) ≡ false → (b ≡ false) × (c ≡ false)
-or_false true c h = absurd cc
-or_false false c h = (refl, h)
-
-or_right : (b c : Bool) → c ≡ true → (b || c) ≡ true
-or_right true c h = refl
-or_right false c h = h
-
-and_not : (b c : Bool) → c ≡ true → (b && not c) ≡ false
-and_not true true h = refl
-and_not true false h = absurd cc
-and_not false c h = refl
-
 -- ---- no half-edge leaves an isolated node
 neither : (b c : Bool) (x y : HalfEdge) (l r : List HalfEdge) → b ≡ false → c ≡ false → l ≡ r → cond b (x ∷ cond c (y ∷ l) l) (cond c (y ∷ l) l) ≡ r
 neither true c x y l r h k e = absurd cc
@@ -37,8 +24,8 @@ none_leaves : (n : ℕ) (q : HalfEdge → Bool) → ((k : HalfEdge) → leaves n
     → filter q (flat_map both_ways (edges ++ more)) ≡ filter q (flat_map both_ways more)
 none_leaves n q off [] more h = refl
 none_leaves n q off (e ∷ es) more h =
-    let both = or_false (is_end_of n e) (list_any (is_end_of n) es) h in
-    let ends = or_false (e.start_node == n) (e.end_node == n) both.0 in
+    let both = or_parts (is_end_of n e) (list_any (is_end_of n) es) h in
+    let ends = or_parts (e.start_node == n) (e.end_node == n) both.0 in
     neither (q (forward_of e)) (q (backward_of e)) (forward_of e) (backward_of e) (filter q (flat_map both_ways (es ++ more))) _ (off (forward_of e) ends.0) (off (backward_of e) ends.1) (none_leaves n q off es more both.1)
 
 pub lone_face : (S : Drawing) (n : NodeRow) (way : Direction) → is_isolated S n.node_id ≡ true → wedge_face S n way ≡ unwrap_or n.containing_face 0
@@ -85,6 +72,6 @@ lone_joined S a b line f differ lone =
     let hs = half_edges (with_edge S a b line f) in
     let q : HalfEdge → Bool = λ k. leaves b.node_id k && not (same_half_edge k (twin forth)) in
     let old = none_leaves b.node_id q (λ k h. ap (λ t. t && not (same_half_edge k (twin forth))) h) S.edges (e ∷ []) (not-true (list_any (is_end_of b.node_id) S.edges) lone) in
-    let own = neither (q forth) (q back) forth back [] [] (ap (λ t. t && not (same_half_edge forth (twin forth))) differ) (and_not (leaves b.node_id back) (same_half_edge back (twin forth)) (same_back e)) refl in
+    let own = neither (q forth) (q back) forth back [] [] (ap (λ t. t && not (same_half_edge forth (twin forth))) differ) (and_right (leaves b.node_id back) (not (same_half_edge back (twin forth))) (not_from_true (same_half_edge back (twin forth)) (same_back e))) refl in
     let next : next_of hs forth ≡ back = ap (λ ks. or_twin forth (first_clockwise (leaving (twin forth)) ks)) (old ∙ own) in
     goes_on hs forth back (length hs) (some_there S.edges e) next (not_forward e) (same_back e)

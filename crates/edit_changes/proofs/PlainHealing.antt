@@ -1,5 +1,5 @@
 -- Healed edges keep a drawing plain.
-use Rattle.std.proofs.Common.{◌≡◌, ◌≢◌, ℕ, refl, sym, ap, subst, ◌⊎◌, inl, inr, ⊎_elim, false, cond, not, ◌&&◌, ◌==◌, List, [], ◌∷◌, ◌++◌, IsTrue, eqb-true}
+use Rattle.std.proofs.Common.{◌≡◌, ◌≢◌, ℕ, refl, sym, ap, subst, ◌⊎◌, inl, inr, ⊎_elim, false, cond, not, ◌&&◌, ◌==◌, List, [], ◌∷◌, ◌++◌, IsTrue, eqb-true, true}
 use Rattle.std.specs.Prelude.{reverse}
 use Rattle.std.specs.List.{list_any, Contains}
 use Rattle.std.proofs.lemmas.Bool.{and_from, cond_both}
@@ -51,24 +51,21 @@ healed_of S e f n id h g =
     inr (record { a = reverse far.points; b = e.geom; line = refl; first = walk_back S.nodes f far.points n far.to_node away; second = subst (λ k. IsWalk S.nodes e e.geom k e.end_node) start walk }))
 
 -- ---- the other edges
-beside : (S : Drawing) (e f : Edge) (n : ℕ) (y : Edge) → CanHeal S e f n → Contains S.edges y → y.edge_id ≢ e.edge_id → y.edge_id ≢ f.edge_id → IsBeside S.edges e f n y
-beside S e f n y g c not_e not_f =
-    let test = λ (x : Edge). is_end_of n x && not (x.edge_id == e.edge_id) && not (x.edge_id == f.edge_id) in
+-- no third edge has an end at a node that has only the two
+pub no_third : (S : Drawing) (n id other : ℕ) (y : Edge) → has_only S n id other ≡ true → Contains S.edges y → y.edge_id ≢ id → y.edge_id ≢ other → IsTrue (is_end_of n y) → ⊥
+no_third S n id other y only c not_id not_other end =
+    let test = λ (x : Edge). is_end_of n x && not (x.edge_id == id) && not (x.edge_id == other) in
     let any = Decides-any test (λ (x : Edge). IsTrue (test x)) (λ x. (λ k. k, λ k. k)) S.edges in
-    let none = (Decides-not (list_any test S.edges) any).0 g.only in
-    let past_e = (Decides-not (y.edge_id == e.edge_id) (Decides-eqb y.edge_id e.edge_id)).1 not_e in
-    let past_f = (Decides-not (y.edge_id == f.edge_id) (Decides-eqb y.edge_id f.edge_id)).1 not_f in
-    record {
-      there = c;
-      not_e = not_e;
-      not_f = not_f;
-      away = λ end. none (y, (c, and_from (is_end_of n y && not (y.edge_id == e.edge_id)) (not (y.edge_id == f.edge_id)) (and_from (is_end_of n y) (not (y.edge_id == e.edge_id)) end past_e) past_f));
-    }
+    let past = λ (k : ℕ) (far : y.edge_id ≢ k). (Decides-not (y.edge_id == k) (Decides-eqb y.edge_id k)).1 far in
+    (Decides-not (list_any test S.edges) any).0 only (y, (c, and_from (is_end_of n y && not (y.edge_id == id)) (not (y.edge_id == other)) (and_from (is_end_of n y) (not (y.edge_id == id)) end (past id not_id)) (past other not_other)))
+
+pub beside : (S : Drawing) (e f : Edge) (n : ℕ) (y : Edge) → CanHeal S e f n → Contains S.edges y → y.edge_id ≢ e.edge_id → y.edge_id ≢ f.edge_id → IsBeside S.edges e f n y
+beside S e f n y g c not_e not_f = record { there = c; not_e = not_e; not_f = not_f; away = no_third S n e.edge_id f.edge_id y g.only c not_e not_f }
 
 beside_other : (es : List Edge) (e f : Edge) (n : ℕ) (y : Edge) → IsBeside es e f n y → IsBeside es f e n y
 beside_other es e f n y b = record { there = b.there; not_e = b.not_f; not_f = b.not_e; away = b.away }
 
-left_over : (es : List Edge) (n : ℕ) (y : Edge) → Contains (without_row edge_id_of es n) y → Contains es y × (y.edge_id ≢ n)
+pub left_over : (es : List Edge) (n : ℕ) (y : Edge) → Contains (without_row edge_id_of es n) y → Contains es y × (y.edge_id ≢ n)
 left_over es n y c =
     let r = contains-filtered (λ (x : Edge). not (x.edge_id == n)) y es c in
     (r.0, (Decides-not (y.edge_id == n) (Decides-eqb y.edge_id n)).0 r.1)

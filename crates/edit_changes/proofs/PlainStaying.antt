@@ -8,8 +8,9 @@ use Rattle.topo_base.specs.declared.rows.NodeRow.{NodeRow}
 use Rattle.plane.specs.Line.{segments_of, first_vertex, last_vertex, is_proper, is_simple}
 use Rattle.drawing.specs.Drawing.{Drawing, Edge, node_id_of, edge_id_of, is_end_of, is_isolated}
 use Rattle.drawing.specs.Blocked.{is_blocked, is_blocked_for, is_line_blocked, goes_between}
-use Rattle.drawing.specs.IsoEdits.{with_node, with_edge, put_in_face, put_at}
+use Rattle.drawing.specs.IsoEdits.{with_node, with_edge, put_at}
 use Rattle.drawing.specs.AddEdge.{coming}
+use Rattle.drawing.specs.PlainInOrder.{IsPlainInOrder}
 use Rattle.drawing.proofs.Ordering.{InOrder, InOrder-push, InOrder-change}
 use Rattle.plane.proofs.ListTests.{Decides-any}
 use Rattle.plane.proofs.PointTests.{Decides-same_point}
@@ -17,7 +18,8 @@ use Rattle.plane.proofs.SimpleTests.{Decides-simple}
 use Rattle.plane.proofs.LineTests.{at_from}
 use Rattle.drawing.proofs.BlockedTests.{Decides-blocked, Decides-blocked_for, Decides-line_blocked}
 use Rattle.drawing.proofs.Members.{ids_differ}
-use Rattle.drawing.proofs.PlainParts.{IsBetweenNodes, ArePlain}
+use Rattle.drawing.proofs.PlainParts.{IsBetweenNodes, ArePlain, parts_of, plain_of}
+use Rattle.edit_changes.proofs.IdsOrdering.{InOrder-put}
 use Rattle.drawing.proofs.PlainChanges.{node_added, node_moved, face_set, edge_added}
 
 -- the nodes and edges are plain, and their ids ascend
@@ -25,6 +27,12 @@ pub record HasPlain (S : Drawing) : Type 0 where
   pub parts : ArePlain S.nodes S.edges
   pub ids : InOrder node_id_of 0 S.next_ids.node S.nodes
   pub edge_ids : InOrder edge_id_of 0 S.next_ids.edge S.edges
+
+pub has_plain : (S : Drawing) → IsPlainInOrder S → HasPlain S
+has_plain S h = record { parts = parts_of S h.plain; ids = record { test = h.node_ids }; edge_ids = record { test = h.edge_ids } }
+
+pub ordered_of : (S : Drawing) → HasPlain S → IsPlainInOrder S
+ordered_of S h = record { plain = plain_of S h.parts; node_ids = h.ids.test; edge_ids = h.edge_ids.test }
 
 pub passed : (b : Bool) → not b ≡ false → b ≡ true
 passed true h = refl
@@ -58,9 +66,6 @@ node_elsewhere S n p h lone free =
     }
 
 -- ---- edges
-pub in_face : (S : Drawing) (face : Option ℕ) (n : ℕ) (nodes : List NodeRow) → InOrder node_id_of 0 S.next_ids.node nodes → InOrder node_id_of 0 S.next_ids.node (put_in_face face n nodes)
-in_face S face n nodes h = InOrder-change node_id_of 0 S.next_ids.node n (λ row. record row { containing_face = face }) nodes (λ r. refl) h
-
 -- the line goes between the points of two nodes
 fits : (S : Drawing) (a b : NodeRow) (line : List Point) (f : ℕ) → Contains S.nodes a → Contains S.nodes b → goes_between a b line ≡ true → is_simple line ≡ true
     → IsBetweenNodes S.nodes (coming S a b line f)
@@ -82,6 +87,6 @@ edge_more S a b line f h ca cb ends simple free =
     (λ q n inside c at. none (q, (inside, inl (n, (c, at))))) (λ q e inside c on. none (q, (inside, inr (e, (c, on))))) in
     record {
       parts = face_set None a.node_id _ _ (face_set None b.node_id S.nodes _ more);
-      ids = in_face S None a.node_id _ (in_face S None b.node_id S.nodes h.ids);
+      ids = InOrder-put 0 S.next_ids.node None a.node_id _ (InOrder-put 0 S.next_ids.node None b.node_id S.nodes h.ids);
       edge_ids = InOrder-push edge_id_of 0 S.next_ids.edge S.edges _ refl (omega arith) h.edge_ids;
     }

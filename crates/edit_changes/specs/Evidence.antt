@@ -9,7 +9,7 @@ use Rattle.topo_base.specs.declared.rows.LayerRow.{LayerRow}
 use Rattle.topo_base.specs.declared.rows.FeatureRow.{FeatureRow}
 use Rattle.topo_base.specs.declared.rows.RelationRow.{RelationRow}
 use Rattle.plane.specs.Line.{is_simple, is_inside_line}
-use Rattle.drawing.specs.Drawing.{Drawing, Edge, is_isolated, is_end_of, has_only}
+use Rattle.drawing.specs.Drawing.{Drawing, Edge, layer_at, feature_at, is_isolated, is_end_of, has_only}
 use Rattle.drawing.specs.HalfEdge.{HalfEdge, forward_of, backward_of, half_edges}
 use Rattle.drawing.specs.Ring.{ring_of, contains_half_edge}
 use Rattle.drawing.specs.Faces.{face_at}
@@ -105,11 +105,10 @@ pub record EdgesMayBeJoined (S : Drawing) (e f : Edge) (n : ℕ) : Type 0 where
   pub alike : have_same_features S edge_type e.edge_id f.edge_id ≡ true
   pub unlisted : is_in_feature S node_type n ≡ false
 
--- ---- layers and features
+-- ---- layers and features: each row is the one that its id finds
 pub record IsChild (S : Drawing) (kind : Kind) (child level : ℕ) : Type 0 where
   pub row : LayerRow
-  pub there : Contains S.layers row
-  pub id : row.layer_id ≡ child
+  pub found : layer_at S child ≡ Some row
   pub kind_is : same_kind row.feature_type kind ≡ true
   pub level_is : row.level + 1 ≡ level
 
@@ -122,15 +121,15 @@ pub record LayerMayCome (S : Drawing) (name : List ℕ) (kind : Kind) (child : O
   pub stands : IsLevel S kind child level
 
 pub record FeatureMayCome (S : Drawing) (layer : LayerRow) (xs : List Pair) : Type 0 where
-  pub there : Contains S.layers layer
+  pub found : layer_at S layer.layer_id ≡ Some layer
   pub allowed : elements_rule S layer [] xs ≡ None
 
 pub record FeatureMayList (S : Drawing) (row : RelationRow) : Type 0 where
   pub feature : FeatureRow
   pub layer : LayerRow
   pub element : Pair
-  pub feature_there : Contains S.features feature
-  pub layer_there : Contains S.layers layer
+  pub feature_found : feature_at S feature.feature_id ≡ Some feature
+  pub layer_found : layer_at S layer.layer_id ≡ Some layer
   pub layer_is : layer.layer_id ≡ feature.layer_id
   pub row_is : row ≡ row_for feature.feature_id layer.layer_id element
   pub allowed : element_rule S layer element ≡ None
@@ -139,12 +138,12 @@ pub record FeatureMayList (S : Drawing) (row : RelationRow) : Type 0 where
 pub record FeatureMayUnlist (S : Drawing) (row : RelationRow) : Type 0 where
   pub feature : FeatureRow
   pub element : Pair
-  pub feature_there : Contains S.features feature
+  pub feature_found : feature_at S feature.feature_id ≡ Some feature
   pub row_is : row ≡ row_for feature.feature_id feature.layer_id element
   pub listed : is_element_listed S row ≡ true
 
 pub record FeatureMayGo (S : Drawing) (t : FeatureRow) : Type 0 where
-  pub there : Contains S.features t
+  pub found : feature_at S t.feature_id ≡ Some t
   pub unused : list_any (lists_feature S t.feature_id) S.relations ≡ false
 
 -- ---- each change

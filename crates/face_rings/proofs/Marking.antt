@@ -1,6 +1,7 @@
 -- The places that were seen, as one ring after another is found.
 use Rattle.std.proofs.Common.{◌≡◌, ℕ, ◌+◌, ◌<◌, ◌≤◌, refl, sym, ◌∙◌, ap, subst, arith, ◌⊎◌, inl, inr, ⊎_elim, Bool, true, false, ◌||◌, List, [], ◌∷◌, ◌++◌, length, map, take, drop, get_or, set, cond, replicate}
 use Rattle.std.specs.Prelude.{filter}
+use Rattle.std.proofs.Math.Bool.{or-false, or-true}
 use Rattle.std.proofs.lemmas.Bool.{or_cases, or_left, or_right, false≢true, false_from_ne_true, cases_eq}
 use Rattle.std.proofs.lemmas.List.{length-map, length-set, length-replicate, get_or-replicate, get_or-map, get_or-set_same, get_or-set_other, map-append, append-nil, get_or_default, take_all, take_at}
 use Rattle.std.proofs.lemmas.List.Elements.{filter_more, Contains-get_or}
@@ -16,20 +17,8 @@ use Rattle.face_rings.proofs.Orbits.{Has, IsLinked}
 use Rattle.face_rings.proofs.Reaching.{Reaches, reaches_on, reaches_back, reaches_known, in_ring, from_ring, begins, begins_not}
 
 -- ---- marking the darts of one ring
-or_none : (b : Bool) → (b || false) ≡ b
-or_none true = refl
-or_none false = refl
-
-or_all : (b : Bool) → (b || true) ≡ true
-or_all true = refl
-or_all false = refl
-
-or_assoc : (a b c : Bool) → (a || (b || c)) ≡ ((a || b) || c)
-or_assoc true b c = refl
-or_assoc false b c = refl
-
 pub marks_none : (border : List BorderDart) (ring : List Dart) (seen : List Bool) → Marks border (take 0 ring) seen seen
-marks_none border ring seen = record { long = refl; marked = λ i b w. sym (or_none (get_or seen i false)) }
+marks_none border ring seen = record { long = refl; marked = λ i b w. sym (or-false (get_or seen i false)) }
 
 -- the place of the dart at index k of the ring is marked next
 pub marks_more : (border : List BorderDart) (ring : List Dart) (old seen : List Bool) (k place : ℕ) (d : Dart) → darts_ascend border ≡ true → length old ≡ length border → k < length ring → d ≡ get_or ring k d
@@ -45,14 +34,14 @@ marks_more border ring old seen k place d up full within is there at m =
         let e1 = get_or-set_same seen place true false (omega (arith, m.long)) in
         let e2 = ap (λ (n : ℕ). get_or (set seen place true) n false) e in
         let dart : (get_or border i b).dart ≡ d = ap (λ (n : ℕ). (get_or border n b).dart) e ∙ at b in
-        let has : has_dart (take (k + 1) ring) ((get_or border i b).dart) ≡ true = more ((get_or border i b).dart) ∙ ap (λ (t : Bool). has_dart (take k ring) ((get_or border i b).dart) || t) (same_in ((get_or border i b).dart) d dart) ∙ or_all (has_dart (take k ring) ((get_or border i b).dart)) in
-        e2 ∙ e1 ∙ sym (ap (λ (t : Bool). get_or old i false || t) has ∙ or_all (get_or old i false))
+        let has : has_dart (take (k + 1) ring) ((get_or border i b).dart) ≡ true = more ((get_or border i b).dart) ∙ ap (λ (t : Bool). has_dart (take k ring) ((get_or border i b).dart) || t) (same_in ((get_or border i b).dart) d dart) ∙ or-true (has_dart (take k ring) ((get_or border i b).dart)) in
+        e2 ∙ e1 ∙ sym (ap (λ (t : Bool). get_or old i false || t) has ∙ or-true (get_or old i false))
 
     other : (i : ℕ) (b : BorderDart) → i < length border → (i ≡ place → ⊥) → get_or (set seen place true) i false ≡ (get_or old i false || has_dart (take (k + 1) ring) ((get_or border i b).dart))
     other i b w far =
         let dart = (get_or border i b).dart in
         let differ : same_dart dart d ≡ false = not_same dart d (λ e. far (place_same border i place b up w there (e ∙ sym (at b)))) in
-        let has : has_dart (take (k + 1) ring) dart ≡ has_dart (take k ring) dart = more dart ∙ ap (λ (t : Bool). has_dart (take k ring) dart || t) differ ∙ or_none (has_dart (take k ring) dart) in
+        let has : has_dart (take (k + 1) ring) dart ≡ has_dart (take k ring) dart = more dart ∙ ap (λ (t : Bool). has_dart (take k ring) dart || t) differ ∙ or-false (has_dart (take k ring) dart) in
         get_or-set_other seen place i true false far ∙ m.marked i b w ∙ ap (λ (t : Bool). get_or old i false || t) (sym has)
 
 -- ---- the rings found so far

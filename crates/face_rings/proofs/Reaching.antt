@@ -2,7 +2,7 @@
 use Rattle.std.proofs.Common.{◌≡◌, ℕ, zero, suc, ◌+◌, ◌<◌, ◌≤◌, refl, sym, ◌∙◌, ap, subst, arith, ◌⊎◌, inl, inr, ⊎_elim, Bool, true, false, not, List, [], ◌∷◌, length}
 use Rattle.std.specs.Prelude.{if◌then◌else◌}
 use Rattle.std.specs.List.{All, list_all}
-use Rattle.std.proofs.lemmas.Bool.{and_parts, and_from, or_cases, or_left, or_right, false≢true, false_from_ne_true}
+use Rattle.std.proofs.lemmas.Bool.{and_parts, and_from, or_cases, or_left, or_right, false≢true, false_from_ne_true, not_from_false, not_from_true}
 use Rattle.std.proofs.lemmas.List.Elements.{All-nil, All-cons}
 use Rattle.topo_base.specs.Darts.{same_dart}
 use Rattle.topo_base.specs.declared.ids.Dart.{Dart}
@@ -161,16 +161,10 @@ all_in p (d ∷ ds) each =
     and_from (p d) (list_all p ds) (each d (or_left (same_dart d d) (has_dart ds d) (same_self d)))
     (all_in p ds (λ e h. each e (or_right (same_dart e d) (has_dart ds e) h)))
 
-not_false : (t : Bool) → t ≡ false → not t ≡ true
-not_false t e = ap not e
-
-not_true : (t : Bool) → t ≡ true → not t ≡ false
-not_true t e = ap not e
-
 pub begins : (border : List BorderDart) (d : Dart) → ((e : Dart) → Reaches border d e → dart_before e d ≡ false) → begins_ring border d ≡ true
-begins border d least = all_in (λ (e : Dart). not (dart_before e d)) (ring_of border d) (λ e h. not_false (dart_before e d) (least e (from_ring border d e h)))
+begins border d least = all_in (λ (e : Dart). not (dart_before e d)) (ring_of border d) (λ e h. not_from_false (dart_before e d) (least e (from_ring border d e h)))
 
 pub begins_not : (border : List BorderDart) (d e : Dart) → IsLinked border → Has border d → Reaches border d e → dart_before e d ≡ true → begins_ring border d ≡ false
 begins_not border d e linked h reach less =
     false_from_ne_true (begins_ring border d)
-    (λ all. false≢true (sym (not_true (dart_before e d) less) ∙ all_out (λ (x : Dart). not (dart_before x d)) (ring_of border d) e all (in_ring border d e linked h reach)))
+    (λ all. false≢true (sym (not_from_true (dart_before e d) less) ∙ all_out (λ (x : Dart). not (dart_before x d)) (ring_of border d) e all (in_ring border d e linked h reach)))

@@ -1,10 +1,9 @@
 -- Elements that stay listed where rows come, change and go, and what no row lists.
-use Rattle.std.proofs.Common.{◌≡◌, ◌∙◌, ℕ, ◌<◌, Option, refl, sym, ap, subst, arith, Bool, true, false, not, cond, ◌&&◌, ◌||◌, ◌==◌, eqb, eqb-true, List, [], ◌∷◌, ◌++◌, map, filter}
-use Rattle.std.specs.List.{Contains, list_any}
+use Rattle.std.proofs.Common.{◌≡◌, ◌∙◌, ℕ, ◌<◌, Option, refl, sym, ap, subst, arith, Bool, true, false, not, cond, ◌&&◌, ◌||◌, ◌==◌, eqb, eqb-true, List, [], ◌∷◌, map, filter}
+use Rattle.std.specs.List.{Contains}
 use Rattle.std.specs.Str.{bytes_eq}
-use Rattle.std.proofs.lemmas.Bool.{and_from, and_parts, false≢true, false_from_ne_true, or_left, or_right}
+use Rattle.std.proofs.lemmas.Bool.{and_from, and_parts, false≢true, false_from_ne_true, not-true}
 use Rattle.std.proofs.lemmas.Bool.Decides.{nat_tests}
-use Rattle.std.proofs.lemmas.List.Folds.{list_any-append}
 use Rattle.topo_base.specs.Kinds.{kind_number}
 use Rattle.topo_base.specs.declared.kind.Kind.{Kind}
 use Rattle.topo_base.specs.declared.kind.Kind.TheVariants.{Puntal, Lineal, Areal}
@@ -18,32 +17,20 @@ use Rattle.drawing.specs.Subdivision.{face_id_of}
 use Rattle.plane.proofs.ListTests.{contains_here, contains_none, contains_there}
 use Rattle.drawing.proofs.Members.{contains-filter, ids_within}
 use Rattle.drawing.proofs.Ordering.{InOrder}
-use Rattle.ring_laws.proofs.Known.{any_in, any_out}
+use Rattle.edit_changes.proofs.IdsOrdering.{either_id}
+use Rattle.ring_laws.proofs.Known.{any_filtered, any_out}
 use Rattle.reference_laws.proofs.KnownRows.{IsRow, has_listed, has_of, lists_primitive, number_in}
 
 -- ---- rows of a table
-pub has_more : {X : Type 0} (p : X → Bool) (xs ys : List X) → list_any p xs ≡ true → list_any p (xs ++ ys) ≡ true
-has_more p xs ys h = list_any-append p xs ys ∙ or_left (list_any p xs) (list_any p ys) h
-
-pub has_behind : {X : Type 0} (p : X → Bool) (xs ys : List X) → list_any p ys ≡ true → list_any p (xs ++ ys) ≡ true
-has_behind p xs ys h = list_any-append p xs ys ∙ or_right (list_any p xs) (list_any p ys) h
-
 pub has_same : {R : Type 0} (id : R → ℕ) (change : R → R) (rows : List R) (n : ℕ) → ((r : R) → id (change r) ≡ id r) → has_row id (map change rows) n ≡ has_row id rows n
 has_same id change [] n keeps = refl
 has_same id change (r ∷ rows) n keeps = let first = keeps r in let rest = has_same id change rows n keeps in λ i. eqb (first i) n || rest i
 
 pub has_changed : {R : Type 0} (id : R → ℕ) (rows : List R) (m n : ℕ) (change : R → R) → ((r : R) → id (change r) ≡ id r) → has_row id (with_change id rows m change) n ≡ has_row id rows n
-has_changed {R = R} id rows m n change keeps = has_same id (λ r. cond (eqb (id r) m) (change r) r) rows n (λ r. by r (eqb (id r) m))
-  where
-    by : (r : R) (b : Bool) → id (cond b (change r) r) ≡ id r
-    by r true = keeps r
-    by r false = refl
-
-pub has_filtered : {X : Type 0} (p q : X → Bool) (xs : List X) → ((x : X) → p x ≡ true → q x ≡ true) → list_any p xs ≡ true → list_any p (filter q xs) ≡ true
-has_filtered p q xs each h = let s = any_out p xs h in any_in p (filter q xs) s.0 (contains-filter q s.0 xs s.1.0 (each s.0 s.1.1)) s.1.1
+has_changed {R = R} id rows m n change keeps = has_same id (λ r. cond (eqb (id r) m) (change r) r) rows n (λ r. either_id id (eqb (id r) m) (change r) r (id r) (keeps r) refl)
 
 pub has_without : {R : Type 0} (id : R → ℕ) (rows : List R) (m n : ℕ) → eqb n m ≡ false → has_row id rows n ≡ true → has_row id (without_row id rows m) n ≡ true
-has_without id rows m n other h = has_filtered (λ r. id r == n) (λ r. not (id r == m)) rows (λ r e. ap not (ap (λ k. eqb k m) (eqb-true (id r) n e) ∙ other)) h
+has_without id rows m n other h = any_filtered (λ r. id r == n) (λ r. not (id r == m)) rows (λ r e. ap not (ap (λ k. eqb k m) (eqb-true (id r) n e) ∙ other)) h
 
 pub nodes_put : (c : Option ℕ) (a b : ℕ) (nodes : List NodeRow) (n : ℕ) → has_row node_id_of (put_in_face c a (put_in_face c b nodes)) n ≡ has_row node_id_of nodes n
 nodes_put c a b nodes n =
@@ -58,11 +45,7 @@ pub areal_from : (T : Drawing) (id : ℕ) → eqb id 0 ≡ false → has_face T 
 areal_from T id some h = and_from (not (id == 0)) (has_face T id) (ap not some) h
 
 pub some_face : (S : Drawing) (id : ℕ) → has_of S Areal id ≡ true → eqb id 0 ≡ false
-some_face S id h = by (eqb id 0) (and_parts (not (id == 0)) (has_face S id) h).0
-  where
-    by : (b : Bool) → not b ≡ true → b ≡ false
-    by true e = absurd cc
-    by false e = refl
+some_face S id h = not-true (eqb id 0) (and_parts (not (id == 0)) (has_face S id) h).0
 
 -- the next face is another than face 0, which is listed
 pub next_is_some : (S : Drawing) → InOrder face_id_of 0 S.next_ids.face S.faces → has_face S 0 ≡ true → eqb S.next_ids.face 0 ≡ false

@@ -87,11 +87,7 @@ came_known S T type old new r features layers follows rows (Stayed c h) =
     let k = rows r c in
     row_moves S T r r.element_id k features layers (λ _ _. refl) (λ none has.
     let lists = lists_of S r k none in
-    follows.kept r k.layer.feature_type c lists (λ same. rest_false (lists_element S type r.element_id r) (is_among r.element_id old) (subst (λ n. lists_element S n r.element_id r ≡ true) same lists) h) has)
-  where
-    rest_false : (a b : Bool) → a ≡ true → (a && b) ≡ false → b ≡ false
-    rest_false true b e h = h
-    rest_false false b e h = absurd cc
+    follows.kept r k.layer.feature_type c lists (λ same. ap (λ b. b && is_among r.element_id old) (sym (subst (λ n. lists_element S n r.element_id r ≡ true) same lists)) ∙ h) has)
 came_known S T type old new r features layers follows rows (Replaced q c h id d e) =
     let k = rows q c in
     let both = and_parts (lists_element S type q.element_id q) (is_among q.element_id old) h in

@@ -1,5 +1,5 @@
 -- Relation rows whose feature, layer and element are listed.
-use Rattle.std.proofs.Common.{◌≡◌, ◌∙◌, ℕ, refl, sym, ap, Bool, true, false, not, cond, ◌&&◌, ◌==◌, eqb-true, eq-eqb, List, Option, Some, None, is_some, option_and_then}
+use Rattle.std.proofs.Common.{◌≡◌, ◌∙◌, ℕ, refl, sym, ap, Bool, true, false, not, cond, ◌&&◌, ◌==◌, eqb, eqb-true, eq-eqb, List, Option, Some, None, is_some, option_and_then}
 use Rattle.std.specs.List.{list_all}
 use Rattle.std.proofs.lemmas.Bool.{and_parts, and_from}
 use Rattle.topo_base.specs.Kinds.{kind_number}
@@ -16,6 +16,8 @@ use Rattle.drawing.specs.Layers.{element_rule_on, is_feature_of, missing, missin
 use Rattle.drawing.specs.Relations.{is_hierarchical, lists_element}
 use Rattle.drawing.specs.Rows.{row_at}
 use Rattle.drawing.specs.Subdivision.{is_layer_known, is_row_known, is_row_of, may_list, names_differ, rows_ascend}
+use Rattle.drawing.proofs.Ordering.{InOrder}
+use Rattle.ring_laws.proofs.RingedDrawings.{IsBefore}
 
 -- ---- what a row of a layer may list
 -- the number of the elements' type, and whether the element is listed
@@ -128,3 +130,11 @@ pub record KnowsRows (S : Drawing) : Type 0 where
   pub features : list_all (λ (t : FeatureRow). is_some (layer_at S t.layer_id)) S.features ≡ true
   pub relations : list_all (is_row_known S) S.relations ≡ true
   pub ascend : rows_ascend S.relations ≡ true
+
+-- what a change is told of the drawing before
+pub record IsTold (S : Drawing) : Type 0 where
+  pub rows : KnowsRows S
+  pub rings : IsBefore S
+  -- the next face is another than face 0
+  pub next_some : eqb S.next_ids.face 0 ≡ false
+  pub features : InOrder feature_id_of 1 S.next_ids.feature S.features

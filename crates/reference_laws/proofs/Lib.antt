@@ -1,8 +1,8 @@
-pub mod DrawingEdits
-pub mod EdgeEdits
+pub mod DrawingChanges
+pub mod EdgeChanges
 pub mod Elements
-pub mod FeatureEdits
+pub mod FeatureChanges
 pub mod Followed
 pub mod KnownRows
-pub mod LayerEdits
+pub mod LayerChanges
 pub mod ReferencesStaying

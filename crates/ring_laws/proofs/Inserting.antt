@@ -130,6 +130,10 @@ pub record Insertion (hs : List HalfEdge) (x : HalfEdge) (f : ℕ) : Type 0 wher
   pub right : x.on_right ≡ f
   pub into : ComesInto hs x f
 
+-- what was there is another than what comes
+pub not_fresh : (hs : List HalfEdge) (x : HalfEdge) → (Contains hs x → ⊥) → (k : HalfEdge) → Contains hs k → k ≡ x → ⊥
+not_fresh hs x fresh k c e = fresh (subst (Contains hs) e c)
+
 -- what is next after x was next after the last one
 next_after_last : (hs : List HalfEdge) (x s p : HalfEdge) → AreSpread (x ∷ hs) → (Contains hs x → ⊥) → Turns (x ∷ hs) x s → Contains hs s → IsLast hs x p → Turns hs p s
 next_after_last hs x s p a fresh h cs l = record {
@@ -140,7 +144,7 @@ next_after_last hs x s p a fresh h cs l = record {
   alone = λ e k c from.
       let at_x = from ∙ l.one_node in
       one_of_equals (x ∷ hs) (leaving x) k p a (a.some x here) (in_all k c) (in_all p l.there) from
-      (subst (λ (z : HalfEdge). is_nearer (leaving x) (leaving k) (leaving z) ≡ false) e (h.none_between k (in_all k c) at_x (not_x k c)))
+      (subst (λ (z : HalfEdge). is_nearer (leaving x) (leaving k) (leaving z) ≡ false) e (h.none_between k (in_all k c) at_x (not_fresh hs x fresh k c)))
       (l.last k c at_x);
 }
   where
@@ -150,16 +154,13 @@ next_after_last hs x s p a fresh h cs l = record {
     in_all : (k : HalfEdge) → Contains hs k → Contains (x ∷ hs) k
     in_all k c = contains_there k x hs c
 
-    not_x : (k : HalfEdge) → Contains hs k → k ≡ x → ⊥
-    not_x k c e = fresh (subst (Contains hs) e c)
-
     between : (k : HalfEdge) → Contains hs k → k.from_node ≡ x.from_node → (k ≡ p → ⊥) → is_nearer (leaving p) (leaving k) (leaving s) ≡ true → ⊥
     between k c from other t =
         ⊎_elim
         (λ (e : k ≡ s). false≢true (sym (subst (λ (z : HalfEdge). is_nearer (leaving p) (leaving k) (leaving z) ≡ false) e (nearer_self (leaving p) (leaving k))) ∙ t))
         (λ (e : k ≡ s → ⊥).
         let some_x = a.some x here in
-        let after_s : is_nearer (leaving x) (leaving k) (leaving s) ≡ false = h.none_between k (in_all k c) from (not_x k c) in
+        let after_s : is_nearer (leaving x) (leaving k) (leaving s) ≡ false = h.none_between k (in_all k c) from (not_fresh hs x fresh k c) in
         let before_p : is_nearer (leaving x) (leaving p) (leaving k) ≡ false = l.last k c from in
         let first : is_nearer (leaving x) (leaving s) (leaving k) ≡ true =
         ⊎_elim (λ (u : is_nearer (leaving x) (leaving s) (leaving k) ≡ true). u)
@@ -171,8 +172,8 @@ next_after_last hs x s p a fresh h cs l = record {
         (by_bool (is_nearer (leaving x) (leaving k) (leaving p))) in
         not_both (leaving p) (leaving k) (leaving s) t
         (round_about (leaving x) (leaving s) (leaving k) (leaving p) some_x (a.some s (in_all s cs)) (a.some k (in_all k c)) (a.some p (in_all p l.there)) first second
-        (apart_at (x ∷ hs) x s a here (in_all s cs) (sym h.one_node) (λ q. not_x s cs (sym q)))
-        (apart_at (x ∷ hs) x k a here (in_all k c) (sym from) (λ q. not_x k c (sym q)))
+        (apart_at (x ∷ hs) x s a here (in_all s cs) (sym h.one_node) (λ q. not_fresh hs x fresh s cs (sym q)))
+        (apart_at (x ∷ hs) x k a here (in_all k c) (sym from) (λ q. not_fresh hs x fresh k c (sym q)))
         (apart_at (x ∷ hs) s k a (in_all s cs) (in_all k c) (h.one_node ∙ sym from) (λ q. e (sym q)))
         (apart_at (x ∷ hs) k p a (in_all k c) (in_all p l.there) (from ∙ sym l.one_node) other)))
         (a.same k s (in_all k c) (in_all s cs))

@@ -1,9 +1,10 @@
 -- Faces that are listed, and nodes that have a containing face exactly where they have no edge.
-use Rattle.std.proofs.Common.{◌≡◌, ℕ, refl, sym, ◌∙◌, ap, subst, ◌⊎◌, inl, inr, ⊎_elim, Bool, true, false, not, cond, ◌&&◌, ◌==◌, List, [], ◌∷◌, Option, Some, None, unwrap_or}
+use Rattle.std.proofs.Common.{◌≡◌, ℕ, refl, sym, ◌∙◌, ap, subst, ◌⊎◌, inl, inr, ⊎_elim, Bool, true, false, not, cond, ◌&&◌, ◌==◌, List, [], ◌∷◌, ◌++◌, Option, Some, None, unwrap_or}
 use Rattle.std.specs.Prelude.{filter}
 use Rattle.std.specs.List.{Contains, find, list_all, list_any}
-use Rattle.std.proofs.lemmas.Bool.{and_parts, and_from, eqb-true, eq-eqb, false≢true, false_from_ne_true, not-true}
+use Rattle.std.proofs.lemmas.Bool.{and_parts, and_from, or_left, or_right, eqb-true, eq-eqb, false≢true, false_from_ne_true}
 use Rattle.std.proofs.lemmas.List.Elements.{All-contains}
+use Rattle.std.proofs.lemmas.List.Folds.{list_any-append}
 use Rattle.topo_base.specs.declared.rows.NodeRow.{NodeRow}
 use Rattle.plane.specs.Direction.{Direction}
 use Rattle.drawing.specs.Drawing.{Drawing, Edge, node_id_of, has_node, has_face, is_end_of, is_isolated}
@@ -14,7 +15,8 @@ use Rattle.drawing.specs.Star.{last_clockwise}
 use Rattle.drawing.specs.Subdivision.{is_edge_known, is_face_known, is_node_known}
 use Rattle.plane.proofs.LineTests.{all_from}
 use Rattle.plane.proofs.ListTests.{Some_of, Decides-any, Decides-all}
-use Rattle.drawing.proofs.Members.{contains-mapped, contains-filtered, contains-found}
+use Rattle.drawing.proofs.Members.{contains-mapped, contains-filter, contains-filtered, contains-found}
+use Rattle.edit_changes.proofs.PlainStaying.{alone}
 use Rattle.face_rings.proofs.HalfLines.{HasPlainLines}
 use Rattle.face_rings.proofs.HalvesApart.{half_of}
 use Rattle.ring_laws.proofs.Inserting.{NoneLeaves, farthest_is}
@@ -28,6 +30,15 @@ any_in p xs x c t = (Decides-any p (λ y. p y ≡ true) (λ y. (λ u. u, λ u. u
 
 pub any_out : {X : Type 0} (p : X → Bool) (xs : List X) → list_any p xs ≡ true → Some_of (λ y. p y ≡ true) xs
 any_out p xs t = (Decides-any p (λ y. p y ≡ true) (λ y. (λ u. u, λ u. u)) xs).0 t
+
+pub any_more : {X : Type 0} (p : X → Bool) (xs ys : List X) → list_any p xs ≡ true → list_any p (xs ++ ys) ≡ true
+any_more p xs ys h = list_any-append p xs ys ∙ or_left (list_any p xs) (list_any p ys) h
+
+pub any_behind : {X : Type 0} (p : X → Bool) (xs ys : List X) → list_any p ys ≡ true → list_any p (xs ++ ys) ≡ true
+any_behind p xs ys h = list_any-append p xs ys ∙ or_right (list_any p xs) (list_any p ys) h
+
+pub any_filtered : {X : Type 0} (p q : X → Bool) (xs : List X) → ((x : X) → p x ≡ true → q x ≡ true) → list_any p xs ≡ true → list_any p (filter q xs) ≡ true
+any_filtered p q xs each h = let s = any_out p xs h in any_in p (filter q xs) s.0 (contains-filter q s.0 xs s.1.0 (each s.0 s.1.1)) s.1.1
 
 pub all_in : {X : Type 0} (p : X → Bool) (xs : List X) → ((x : X) → Contains xs x → p x ≡ true) → list_all p xs ≡ true
 all_in p xs each = (Decides-all p (λ y. p y ≡ true) (λ y. (λ u. u, λ u. u)) xs).1 (all_from (λ y. p y ≡ true) xs each)
@@ -79,7 +90,7 @@ pub not_isolated : (T : Drawing) (n : ℕ) (e : Edge) → Contains T.edges e →
 not_isolated T n e c t = ap not (any_in (is_end_of n) T.edges e c t)
 
 pub none_ends : (T : Drawing) (n : ℕ) → is_isolated T n ≡ true → (e : Edge) → Contains T.edges e → is_end_of n e ≡ true → ⊥
-none_ends T n lone e c t = false≢true (sym (not-true (list_any (is_end_of n) T.edges) lone) ∙ any_in (is_end_of n) T.edges e c t)
+none_ends T n lone e c t = alone T n lone e c t
 
 pub none_leaves : (T : Drawing) (n : ℕ) → is_isolated T n ≡ true → NoneLeaves (half_edges T) n
 none_leaves T n lone k c from =

@@ -1,9 +1,9 @@
 -- Faces and nodes stay known where nodes and edges come and go, and where a face is divided.
-use Rattle.std.proofs.Common.{◌≡◌, ℕ, ◌+◌, refl, sym, ◌∙◌, ap, subst, arith, ◌⊎◌, inl, inr, ⊎_elim, Bool, true, false, not, cond, ◌&&◌, ◌==◌, nat_eq, List, [], ◌∷◌, ◌++◌, filter, Option, Some, None}
+use Rattle.std.proofs.Common.{◌≡◌, ◌≢◌, ℕ, ◌+◌, refl, sym, ◌∙◌, ap, subst, arith, ne_eqb, ◌⊎◌, inl, inr, ⊎_elim, Bool, true, false, not, cond, ◌&&◌, ◌==◌, nat_eq, List, [], ◌∷◌, ◌++◌, filter, Option, Some, None}
 use Rattle.std.specs.Option.{option_eq}
 use Rattle.std.specs.List.{Contains, list_any}
-use Rattle.std.proofs.lemmas.Bool.{and_parts, and_from, or_cases, or_left, or_right, eqb-true, eq-eqb, false≢true}
-use Rattle.std.proofs.lemmas.List.Elements.{Contains-push_cases, Contains-push, Contains-append_left, Contains-append_right}
+use Rattle.std.proofs.lemmas.Bool.{and_parts, and_from, cond_both, or_cases, or_left, or_right, eqb-true, eq-eqb, false≢true}
+use Rattle.std.proofs.lemmas.List.Elements.{Contains-push_cases, Contains-push, Contains-append_left}
 use Rattle.topo_base.specs.Point.{Point}
 use Rattle.topo_base.specs.declared.rows.NodeRow.{NodeRow}
 use Rattle.drawing.specs.AddEdge.{Division, coming, part_at, divided_side, divided_edge, divided_node, divided, keeps_left, one_new, two_new}
@@ -15,12 +15,11 @@ use Rattle.drawing.specs.PlainInOrder.{IsPlainInOrder}
 use Rattle.drawing.specs.Ring.{ring_of, contains_half_edge, least_vertex}
 use Rattle.drawing.specs.Rows.{without_row}
 use Rattle.drawing.specs.Subdivision.{is_face_known, is_node_known}
-use Rattle.plane.proofs.ListTests.{contains_here, contains_there}
-use Rattle.drawing.proofs.Members.{contains-map, contains-mapped, contains-filter, contains-filtered, ids_within}
+use Rattle.drawing.proofs.Members.{contains-map, contains-mapped, contains-filtered, ids_within}
 use Rattle.face_rings.proofs.HalfLines.{HasPlainLines}
 use Rattle.face_rings.proofs.HalvesApart.{one_edge}
 use Rattle.face_rings.proofs.Ranks.{by_bool}
-use Rattle.ring_laws.proofs.Known.{any_in, any_out, any_same, IsKnown, isolated_if, not_isolated, known_kept, found_listed, IsPutTwice, put_twice}
+use Rattle.ring_laws.proofs.Known.{any_in, any_more, any_behind, any_filtered, any_same, IsKnown, isolated_if, not_isolated, known_kept, found_listed, IsPutTwice, put_twice}
 use Rattle.ring_laws.proofs.WithoutEdge.{IsAlone, kept_edge, was_edge}
 
 -- ---- nodes
@@ -41,17 +40,17 @@ new_isolated S ordered good = isolated_if S S.next_ids.node none
         let (end, (ce, (ends, there))) = fit.ends in
         ⊎_elim (λ (p : e.start_node ≡ S.next_ids.node). old e.start_node row cr is p) (λ (p : e.end_node ≡ S.next_ids.node). old e.end_node end ce ends p) (end_is S.next_ids.node e t)
 
-pub node_comes : (S : Drawing) (p : Point) → IsPlainInOrder S → HasPlainLines S → IsKnown S → IsKnown (with_node S (Some (face_at S p)) p)
-node_comes S p ordered good known =
-    let T = with_node S (Some (face_at S p)) p in
-    let new : NodeRow = record { node_id = S.next_ids.node; containing_face = Some (face_at S p); geom = p } in
-    let listed : has_face S (face_at S p) ≡ true = found_listed (λ f. not (f == 0) && is_in_face S f p) S.faces known.universe in
+pub node_comes : (S : Drawing) (face : ℕ) (p : Point) → face_at S p ≡ face → IsPlainInOrder S → HasPlainLines S → IsKnown S → IsKnown (with_node S (Some face) p)
+node_comes S face p lies ordered good known =
+    let T = with_node S (Some face) p in
+    let new : NodeRow = record { node_id = S.next_ids.node; containing_face = Some face; geom = p } in
+    let listed = subst (λ f. has_face S f ≡ true) lies (found_listed (λ f. not (f == 0) && is_in_face S f p) S.faces known.universe) in
     record {
       universe = known.universe;
       sides = known.sides;
       nodes = λ n c. ⊎_elim
           (λ (d : Contains S.nodes n). known_kept S T n.containing_face (is_isolated S n.node_id) (is_isolated T n.node_id) refl (λ f t. t) (known.nodes n d))
-          (λ (e : new ≡ n). subst (λ (x : NodeRow). is_node_known T x ≡ true) e (and_from (is_isolated S S.next_ids.node) (has_face S (face_at S p)) (new_isolated S ordered good) listed))
+          (λ (e : new ≡ n). subst (λ (x : NodeRow). is_node_known T x ≡ true) e (and_from (is_isolated S S.next_ids.node) (has_face S face) (new_isolated S ordered good) listed))
           (Contains-push_cases S.nodes new n c);
     }
 
@@ -216,45 +215,32 @@ face_divides T d faces new parts known = record {
     by_test r false e h = other_kept T (divided T d faces new) r.containing_face d.face (is_isolated T r.node_id) (is_isolated (divided T d faces new) r.node_id) (as_before r.node_id) parts.others e h
 
 -- with one new face, and with two
-listed_more : (faces more : List ℕ) (g : ℕ) → is_listed faces g ≡ true → is_listed (faces ++ more) g ≡ true
-listed_more faces more g t = let s = any_out (λ x. x == g) faces t in any_in (λ x. x == g) (faces ++ more) s.0 (Contains-append_left faces more s.0 s.1.0) s.1.1
-
-pub one_listed : (T : Drawing) (f : ℕ) (left right : List HalfEdge) → IsKnown T → has_face T f ≡ true → AreParts T (one_new T f left right) (T.faces ++ T.next_ids.face ∷ [])
-one_listed T f left right known there = record {
-  zero = listed_more T.faces (T.next_ids.face ∷ []) 0 known.universe;
-  others = λ g t e. listed_more T.faces (T.next_ids.face ∷ []) g t;
-  left = either_listed (keeps_left f left) f T.next_ids.face old new;
-  right = either_listed (keeps_left f left) T.next_ids.face f new old;
+pub one_listed : (T : Drawing) (f : ℕ) (left right : List HalfEdge) → has_face T 0 ≡ true → has_face T f ≡ true → AreParts T (one_new T f left right) (T.faces ++ T.next_ids.face ∷ [])
+one_listed T f left right zero there = record {
+  zero = stays 0 zero;
+  others = λ g t e. stays g t;
+  left = cond_both (keeps_left f left) f T.next_ids.face (λ g. is_listed (T.faces ++ T.next_ids.face ∷ []) g ≡ true) (λ _. stays f there) (λ _. new);
+  right = cond_both (keeps_left f left) T.next_ids.face f (λ g. is_listed (T.faces ++ T.next_ids.face ∷ []) g ≡ true) (λ _. new) (λ _. stays f there);
 }
   where
-    old : is_listed (T.faces ++ T.next_ids.face ∷ []) f ≡ true
-    old = listed_more T.faces (T.next_ids.face ∷ []) f there
+    stays : (g : ℕ) → has_face T g ≡ true → is_listed (T.faces ++ T.next_ids.face ∷ []) g ≡ true
+    stays g t = any_more (λ x. x == g) T.faces (T.next_ids.face ∷ []) t
 
     new : is_listed (T.faces ++ T.next_ids.face ∷ []) T.next_ids.face ≡ true
-    new = any_in (λ x. x == T.next_ids.face) (T.faces ++ T.next_ids.face ∷ []) T.next_ids.face (Contains-push T.faces T.next_ids.face) (eq-eqb T.next_ids.face T.next_ids.face refl)
+    new = any_behind (λ x. x == T.next_ids.face) T.faces (T.next_ids.face ∷ []) (or_left (T.next_ids.face == T.next_ids.face) false (eq-eqb T.next_ids.face T.next_ids.face refl))
 
-    either_listed : (t : Bool) (a b : ℕ) → is_listed (T.faces ++ T.next_ids.face ∷ []) a ≡ true → is_listed (T.faces ++ T.next_ids.face ∷ []) b ≡ true → is_listed (T.faces ++ T.next_ids.face ∷ []) (cond t a b) ≡ true
-    either_listed true a b h k = h
-    either_listed false a b h k = k
-
-pub two_listed : (T : Drawing) (f : ℕ) (left right : List HalfEdge) → IsKnown T → (f == 0) ≡ false → AreParts T (two_new T f left right) (filter (λ g. not (g == f)) T.faces ++ T.next_ids.face ∷ (T.next_ids.face + 1) ∷ [])
-two_listed T f left right known some = record {
-  zero = kept 0 known.universe (turned f 0 some);
+pub two_listed : (T : Drawing) (f : ℕ) (left right : List HalfEdge) → has_face T 0 ≡ true → f ≢ 0 → AreParts T (two_new T f left right) (filter (λ g. not (g == f)) T.faces ++ T.next_ids.face ∷ (T.next_ids.face + 1) ∷ [])
+two_listed T f left right zero some = record {
+  zero = kept 0 zero (ne_eqb 0 f (λ e. some (sym e)));
   others = λ g t e. kept g t e;
-  left = new T.next_ids.face (contains_here T.next_ids.face ((T.next_ids.face + 1) ∷ []));
-  right = new (T.next_ids.face + 1) (contains_there (T.next_ids.face + 1) T.next_ids.face ((T.next_ids.face + 1) ∷ []) (contains_here (T.next_ids.face + 1) []));
+  left = new T.next_ids.face (or_left (T.next_ids.face == T.next_ids.face) _ (eq-eqb T.next_ids.face T.next_ids.face refl));
+  right = new (T.next_ids.face + 1) (or_right (T.next_ids.face == T.next_ids.face + 1) _ (or_left (T.next_ids.face + 1 == T.next_ids.face + 1) false (eq-eqb (T.next_ids.face + 1) (T.next_ids.face + 1) refl)));
 }
   where
-    turned : (a b : ℕ) → (a == b) ≡ false → (b == a) ≡ false
-    turned a b e = ⊎_elim (λ (t : (b == a) ≡ true). absurd (false≢true (sym e ∙ eq-eqb a b (sym (eqb-true b a t))))) (λ (t : (b == a) ≡ false). t) (by_bool (b == a))
-
-    new : (g : ℕ) → Contains (T.next_ids.face ∷ (T.next_ids.face + 1) ∷ []) g → is_listed (filter (λ x. not (x == f)) T.faces ++ T.next_ids.face ∷ (T.next_ids.face + 1) ∷ []) g ≡ true
-    new g c = any_in (λ x. x == g) (filter (λ x. not (x == f)) T.faces ++ T.next_ids.face ∷ (T.next_ids.face + 1) ∷ []) g
-        (Contains-append_right (filter (λ x. not (x == f)) T.faces) (T.next_ids.face ∷ (T.next_ids.face + 1) ∷ []) g c) (eq-eqb g g refl)
+    new : (g : ℕ) → is_listed (T.next_ids.face ∷ (T.next_ids.face + 1) ∷ []) g ≡ true → is_listed (filter (λ x. not (x == f)) T.faces ++ T.next_ids.face ∷ (T.next_ids.face + 1) ∷ []) g ≡ true
+    new g h = any_behind (λ x. x == g) (filter (λ x. not (x == f)) T.faces) (T.next_ids.face ∷ (T.next_ids.face + 1) ∷ []) h
 
     kept : (g : ℕ) → has_face T g ≡ true → (g == f) ≡ false → is_listed (filter (λ x. not (x == f)) T.faces ++ T.next_ids.face ∷ (T.next_ids.face + 1) ∷ []) g ≡ true
     kept g t e =
-        let s = any_out (λ x. x == g) T.faces t in
-        let same = eqb-true s.0 g s.1.1 in
-        listed_more (filter (λ x. not (x == f)) T.faces) (T.next_ids.face ∷ (T.next_ids.face + 1) ∷ []) g
-        (any_in (λ x. x == g) (filter (λ x. not (x == f)) T.faces) s.0 (contains-filter (λ x. not (x == f)) s.0 T.faces s.1.0 (ap not (ap (λ x. x == f) same ∙ e))) s.1.1)
+        any_more (λ x. x == g) (filter (λ x. not (x == f)) T.faces) (T.next_ids.face ∷ (T.next_ids.face + 1) ∷ [])
+        (any_filtered (λ x. x == g) (λ x. not (x == f)) T.faces (λ x is. ap not (ap (λ y. y == f) (eqb-true x g is) ∙ e)) t)

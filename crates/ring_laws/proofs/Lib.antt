@@ -7,6 +7,11 @@ pub mod RingParts
 pub mod DividedSides
 pub mod Known
 pub mod KnownStays
+pub mod RingedDrawings
+pub mod EdgesCome
+pub mod EdgesGo
+pub mod EdgesCut
+pub mod EdgesJoin
 pub mod RingsStaying
 pub mod Removing
 pub mod MergedSides

@@ -1,9 +1,8 @@
 -- A removed edge: the rings at its two sides become rings of one face, and faces and nodes stay known.
-use Rattle.std.proofs.Common.{◌≡◌, ℕ, refl, sym, ◌∙◌, ap, subst, ⊎_elim, Bool, true, false, not, cond, ◌&&◌, ◌||◌, List, [], ◌∷◌, ◌++◌, map, option_map, Option, Some, None}
+use Rattle.std.proofs.Common.{◌≡◌, ◌≢◌, ℕ, ne_eqb, refl, sym, ◌∙◌, ap, subst, ⊎_elim, Bool, true, false, not, cond, ◌&&◌, ◌||◌, List, [], ◌∷◌, ◌++◌, map, option_map, Option, Some, None}
 use Rattle.std.specs.Prelude.{flat_map, ◌==◌}
 use Rattle.std.specs.List.{Contains, list_any}
-use Rattle.std.proofs.lemmas.Bool.{and_parts, and_from, eqb-true, eq-eqb, false≢true}
-use Rattle.std.proofs.lemmas.List.Elements.{Contains-push, Contains-append_left}
+use Rattle.std.proofs.lemmas.Bool.{and_parts, and_from, or_from, or_left, eqb-true, eq-eqb, false≢true, not-true, not-false}
 use Rattle.topo_base.specs.declared.rows.NodeRow.{NodeRow}
 use Rattle.topo_base.specs.declared.rows.Counters.{Counters}
 use Rattle.drawing.specs.Drawing.{Drawing, Edge, edge_id_of, has_face, is_end_of, is_isolated}
@@ -13,7 +12,7 @@ use Rattle.drawing.specs.RemoveEdge.{renamed, renamed_edge, renamed_node, withou
 use Rattle.drawing.specs.Rows.{without_row}
 use Rattle.drawing.specs.Star.{next_of}
 use Rattle.drawing.specs.Subdivision.{is_face_known, is_node_known, rings_have_one_face}
-use Rattle.drawing.proofs.Members.{contains-map, contains-mapped, contains-filter}
+use Rattle.drawing.proofs.Members.{contains-map, contains-mapped}
 use Rattle.face_rings.proofs.FaceBorders.{half_by_dart}
 use Rattle.face_rings.proofs.HalfLines.{HasPlainLines}
 use Rattle.face_rings.proofs.HalvesApart.{half_of, forward_there, backward_there, one_edge}
@@ -21,7 +20,7 @@ use Rattle.face_rings.proofs.NextApart.{next_there}
 use Rattle.face_rings.proofs.Ranks.{by_bool}
 use Rattle.ring_laws.proofs.Faceless.{faceless, next_faceless}
 use Rattle.ring_laws.proofs.DividedSides.{dart_faceless}
-use Rattle.ring_laws.proofs.Known.{any_in, any_out, any_same, IsKnown, isolated_if, not_isolated, none_ends}
+use Rattle.ring_laws.proofs.Known.{any_in, any_out, any_more, any_behind, any_filtered, any_same, IsKnown, isolated_if, not_isolated, none_ends}
 use Rattle.ring_laws.proofs.KnownStays.{is_listed}
 use Rattle.ring_laws.proofs.Removing.{joined_without}
 use Rattle.ring_laws.proofs.Turning.{AreJoined, next_turns, lefts_stay}
@@ -89,11 +88,7 @@ renamed_listed S gone kept faces g m there = by_test (is_among g gone) refl
 
 renamed_known : (S U : Drawing) (gone : List ℕ) (kept : ℕ) (c : Option ℕ) (i j : Bool) → ((g : ℕ) → has_face S g ≡ true → has_face U (renamed gone kept g) ≡ true) → (i ≡ true → j ≡ true) → (i ≡ false → j ≡ false)
     → is_face_known S c i ≡ true → is_face_known U (option_map (renamed gone kept) c) j ≡ true
-renamed_known S U gone kept None i j listed on off h = ap not (off (no_more i h))
-  where
-    no_more : (b : Bool) → not b ≡ true → b ≡ false
-    no_more true h = absurd (false≢true h)
-    no_more false h = refl
+renamed_known S U gone kept None i j listed on off h = ap not (off (not-true i h))
 renamed_known S U gone kept (Some f) i j listed on off h = let both = and_parts i (has_face S f) h in and_from j (has_face U (renamed gone kept f)) (on both.0) (listed f both.1)
 
 pub merged_known : (S : Drawing) (e : Edge) (gone : List ℕ) (kept : ℕ) (faces : List ℕ) (ids : Counters) → HasPlainLines S → Contains S.edges e → AreMerged S gone kept faces → IsKnown S → IsKnown (merged_with S e gone kept faces ids)
@@ -119,20 +114,12 @@ merged_known S e gone kept faces ids good ce m known = record {
 
     still_joined : (n : ℕ) → (is_end_of n e && is_isolated (lessened S e) n) ≡ false → is_isolated S n ≡ false → is_isolated (lessened S e) n ≡ false
     still_joined n off some =
-        let (x, (c, t)) = any_out (is_end_of n) S.edges (not_out (list_any (is_end_of n) S.edges) some) in
+        let (x, (c, t)) = any_out (is_end_of n) S.edges (not-false (list_any (is_end_of n) S.edges) some) in
         ⊎_elim
         (λ (p : (x.edge_id == e.edge_id) ≡ true).
-        second_off (is_end_of n e) (is_isolated (lessened S e) n) (subst (λ (y : Edge). is_end_of n y ≡ true) (one_edge S x e good c ce (eqb-true x.edge_id e.edge_id p)) t) off)
+        ap (λ b. b && is_isolated (lessened S e) n) (sym (subst (λ (y : Edge). is_end_of n y ≡ true) (one_edge S x e good c ce (eqb-true x.edge_id e.edge_id p)) t)) ∙ off)
         (λ (p : (x.edge_id == e.edge_id) ≡ false). not_isolated (lessened S e) n x (kept_edge S.edges e x c (λ q. false≢true (sym p ∙ eq-eqb x.edge_id e.edge_id q))) t)
         (by_bool (x.edge_id == e.edge_id))
-      where
-        not_out : (b : Bool) → not b ≡ false → b ≡ true
-        not_out true h = refl
-        not_out false h = absurd (false≢true (sym h))
-
-        second_off : (b c : Bool) → b ≡ true → (b && c) ≡ false → c ≡ false
-        second_off true c h k = k
-        second_off false c h k = absurd (false≢true h)
 
     by_test : (r : NodeRow) (t : Bool) → (is_end_of r.node_id e && is_isolated (lessened S e) r.node_id) ≡ t → is_node_known S r ≡ true
         → is_node_known (merged_with S e gone kept faces ids) (cond t (record r { containing_face = Some kept }) (record r { containing_face = option_map (renamed gone kept) r.containing_face })) ≡ true
@@ -146,44 +133,32 @@ merged_known S e gone kept faces ids good ce m known = record {
         (λ some. sym (sides_aside r.node_id) ∙ still_joined r.node_id t some) h
 
 -- ---- which faces go
-listed_left : (S : Drawing) (gone more : List ℕ) (g : ℕ) → has_face S g ≡ true → is_among g gone ≡ false → is_listed (without_faces S gone ++ more) g ≡ true
-listed_left S gone more g there off =
-    let (x, (c, t)) = any_out (λ x. x == g) S.faces there in
-    let same = eqb-true x g t in
-    any_in (λ x. x == g) (without_faces S gone ++ more) x
-    (Contains-append_left (without_faces S gone) more x (contains-filter (λ f. not (is_among f gone)) x S.faces c (ap not (ap (λ f. is_among f gone) same ∙ off)))) t
-
 listed_less : (S : Drawing) (gone : List ℕ) (g : ℕ) → has_face S g ≡ true → is_among g gone ≡ false → is_listed (without_faces S gone) g ≡ true
-listed_less S gone g there off =
-    let (x, (c, t)) = any_out (λ x. x == g) S.faces there in
-    let same = eqb-true x g t in
-    any_in (λ x. x == g) (without_faces S gone) x (contains-filter (λ f. not (is_among f gone)) x S.faces c (ap not (ap (λ f. is_among f gone) same ∙ off))) t
+listed_less S gone g there off = any_filtered (λ x. x == g) (λ f. not (is_among f gone)) S.faces (λ x t. ap not (ap (λ f. is_among f gone) (eqb-true x g t) ∙ off)) there
 
-pub none_merged : (S : Drawing) (f : ℕ) → IsKnown S → has_face S f ≡ true → AreMerged S [] f S.faces
-none_merged S f known there = record { zero = known.universe; stays = there; others = λ g t e. t }
+pub none_merged : (S : Drawing) (f : ℕ) → has_face S 0 ≡ true → has_face S f ≡ true → AreMerged S [] f S.faces
+none_merged S f zero there = record { zero = zero; stays = there; others = λ g t e. t }
 
 -- not among those that go
-off_one : (g goes : ℕ) → (goes == g) ≡ false → is_among g (goes ∷ []) ≡ false
-off_one g goes e = ap (λ t. t || false) e
+off_one : (g goes : ℕ) → goes ≢ g → is_among g (goes ∷ []) ≡ false
+off_one g goes e = or_from (goes == g) false (ne_eqb goes g e) refl
 
-pub one_merged : (S : Drawing) (goes kept : ℕ) → IsKnown S → has_face S kept ≡ true → (goes == 0) ≡ false → (goes == kept) ≡ false → AreMerged S (goes ∷ []) kept (without_faces S (goes ∷ []))
-one_merged S goes kept known there some differ = record {
-  zero = listed_less S (goes ∷ []) 0 known.universe (off_one 0 goes some);
+pub one_merged : (S : Drawing) (goes kept : ℕ) → has_face S 0 ≡ true → has_face S kept ≡ true → goes ≢ 0 → goes ≢ kept → AreMerged S (goes ∷ []) kept (without_faces S (goes ∷ []))
+one_merged S goes kept zero there some differ = record {
+  zero = listed_less S (goes ∷ []) 0 zero (off_one 0 goes some);
   stays = listed_less S (goes ∷ []) kept there (off_one kept goes differ);
   others = λ g t e. listed_less S (goes ∷ []) g t e;
 }
 
-pub both_merged : (S : Drawing) (l r new : ℕ) → IsKnown S → (l == 0) ≡ false → (r == 0) ≡ false → AreMerged S (l ∷ r ∷ []) new (without_faces S (l ∷ r ∷ []) ++ new ∷ [])
-both_merged S l r new known some other = record {
-  zero = listed_left S (l ∷ r ∷ []) (new ∷ []) 0 known.universe (neither (l == 0) (r == 0) some other);
-  stays = any_in (λ x. x == new) (without_faces S (l ∷ r ∷ []) ++ new ∷ []) new (Contains-push (without_faces S (l ∷ r ∷ [])) new) (eq-eqb new new refl);
-  others = λ g t e. listed_left S (l ∷ r ∷ []) (new ∷ []) g t e;
+pub both_merged : (S : Drawing) (l r new : ℕ) → has_face S 0 ≡ true → l ≢ 0 → r ≢ 0 → AreMerged S (l ∷ r ∷ []) new (without_faces S (l ∷ r ∷ []) ++ new ∷ [])
+both_merged S l r new zero some other = record {
+  zero = left 0 zero (or_from (l == 0) (r == 0 || false) (ne_eqb l 0 some) (off_one 0 r other));
+  stays = any_behind (λ x. x == new) (without_faces S (l ∷ r ∷ [])) (new ∷ []) (or_left (new == new) false (eq-eqb new new refl));
+  others = λ g t e. left g t e;
 }
   where
-    neither : (a b : Bool) → a ≡ false → b ≡ false → (a || (b || false)) ≡ false
-    neither true b h k = h
-    neither false true h k = k
-    neither false false h k = refl
+    left : (g : ℕ) → has_face S g ≡ true → is_among g (l ∷ r ∷ []) ≡ false → is_listed (without_faces S (l ∷ r ∷ []) ++ new ∷ []) g ≡ true
+    left g t e = any_more (λ x. x == g) (without_faces S (l ∷ r ∷ [])) (new ∷ []) (listed_less S (l ∷ r ∷ []) g t e)
 
 -- the two sides are one then
 pub one_renamed : (goes kept : ℕ) → renamed (goes ∷ []) kept kept ≡ renamed (goes ∷ []) kept goes

@@ -13,7 +13,7 @@ use Rattle.plane.proofs.ListTests.{contains_here, contains_there, contains_cases
 use Rattle.face_rings.proofs.HalfLines.{HasPlainLines}
 use Rattle.face_rings.proofs.HalvesApart.{half_of, forward_there, backward_there, one_edge}
 use Rattle.face_rings.proofs.Ranks.{by_bool}
-use Rattle.ring_laws.proofs.Inserting.{round_about, not_both}
+use Rattle.ring_laws.proofs.Inserting.{round_about, not_both, not_fresh}
 use Rattle.ring_laws.proofs.Turning.{AreSpread, spread_of, spread_within, apart_at, Turns, AreJoined, turns_within}
 use Rattle.ring_laws.proofs.WithoutEdge.{kept_edge, was_edge}
 
@@ -37,9 +37,6 @@ joined_fewer r hs x a fresh same joined t s h =
     in_all : (k : HalfEdge) → Contains hs k → Contains (x ∷ hs) k
     in_all k c = contains_there k x hs c
 
-    not_x : (k : HalfEdge) → Contains hs k → k ≡ x → ⊥
-    not_x k c e = fresh (subst (Contains hs) e c)
-
     unchanged : (x.from_node ≡ t.from_node → is_nearer (leaving t) (leaving x) (leaving s) ≡ false) → (s ≡ t → x.from_node ≡ t.from_node → ⊥) → Turns (x ∷ hs) t s
     unchanged off lone = record {
       first = in_all t h.first;
@@ -62,7 +59,7 @@ joined_fewer r hs x a fresh same joined t s h =
           (λ (p : x ≡ k). subst (λ (z : HalfEdge). is_nearer (leaving t) (leaving z) (leaving x) ≡ false) p (nearer_self (leaving t) (leaving x)))
           (λ (d : Contains hs k). absurd (other (h.alone e k d from)))
           (contains_cases k x hs c);
-      alone = λ q. absurd (not_x t h.first (sym q));
+      alone = λ q. absurd (not_fresh hs x fresh t h.first (sym q));
     }
 
     two_back : x.from_node ≡ t.from_node → s ≡ t → Turns (x ∷ hs) x t
@@ -74,7 +71,7 @@ joined_fewer r hs x a fresh same joined t s h =
           (λ (p : x ≡ k). absurd (other (sym p)))
           (λ (d : Contains hs k). subst (λ (z : HalfEdge). is_nearer (leaving x) (leaving z) (leaving t) ≡ false) (sym (h.alone e k d (from ∙ node))) (nearer_self (leaving x) (leaving t)))
           (contains_cases k x hs c);
-      alone = λ q. absurd (not_x t h.first q);
+      alone = λ q. absurd (not_fresh hs x fresh t h.first q);
     }
 
     -- x stands between t and s
@@ -87,7 +84,7 @@ joined_fewer r hs x a fresh same joined t s h =
           (λ (p : x ≡ k). subst (λ (z : HalfEdge). is_nearer (leaving t) (leaving z) (leaving x) ≡ false) p (nearer_self (leaving t) (leaving x)))
           (λ (d : Contains hs k). false_from_ne_true (is_nearer (leaving t) (leaving k) (leaving x)) (λ u. false≢true (sym (h.none_between k d from other) ∙ nearer_onward (leaving t) (leaving k) (leaving x) (leaving s) u near)))
           (contains_cases k x hs c);
-      alone = λ q. absurd (not_x t h.first (sym q));
+      alone = λ q. absurd (not_fresh hs x fresh t h.first (sym q));
     }
 
     between : (k : HalfEdge) → x.from_node ≡ t.from_node → is_nearer (leaving t) (leaving x) (leaving s) ≡ true → (s ≡ t → ⊥) → Contains hs k → k.from_node ≡ x.from_node → is_nearer (leaving x) (leaving k) (leaving s) ≡ true → ⊥
@@ -96,7 +93,7 @@ joined_fewer r hs x a fresh same joined t s h =
         let some_x = a.some x here in
         let some_s = a.some s (in_all s h.second) in
         let back : is_nearer (leaving x) (leaving s) (leaving t) ≡ true =
-        nearer_cyclic (leaving t) (leaving x) (leaving s) some_t some_x near (apart_at (x ∷ hs) t x a (in_all t h.first) here (sym node) (not_x t h.first)) in
+        nearer_cyclic (leaving t) (leaving x) (leaving s) some_t some_x near (apart_at (x ∷ hs) t x a (in_all t h.first) here (sym node) (not_fresh hs x fresh t h.first)) in
         ⊎_elim
         (λ (e : k ≡ t). not_both (leaving x) (leaving s) (leaving t) back (subst (λ (z : HalfEdge). is_nearer (leaving x) (leaving z) (leaving s) ≡ true) e u))
         (λ (other : k ≡ t → ⊥).
@@ -106,8 +103,8 @@ joined_fewer r hs x a fresh same joined t s h =
         let at_t = from ∙ node in
         false≢true (sym (h.none_between k c at_t other)
         ∙ round_about (leaving x) (leaving k) (leaving s) (leaving t) some_x (a.some k (in_all k c)) some_s some_t u back
-        (apart_at (x ∷ hs) x k a here (in_all k c) (sym from) (λ q. not_x k c (sym q)))
-        (apart_at (x ∷ hs) x s a here (in_all s h.second) (node ∙ sym h.one_node) (λ q. not_x s h.second (sym q)))
+        (apart_at (x ∷ hs) x k a here (in_all k c) (sym from) (λ q. not_fresh hs x fresh k c (sym q)))
+        (apart_at (x ∷ hs) x s a here (in_all s h.second) (node ∙ sym h.one_node) (λ q. not_fresh hs x fresh s h.second (sym q)))
         (apart_at (x ∷ hs) k s a (in_all k c) (in_all s h.second) (at_t ∙ sym h.one_node) e)
         (apart_at (x ∷ hs) s t a (in_all s h.second) (in_all t h.first) h.one_node differ)))
         (a.same k s (in_all k c) (in_all s h.second)))
@@ -122,7 +119,7 @@ joined_fewer r hs x a fresh same joined t s h =
           (λ (p : x ≡ k). absurd (other (sym p)))
           (λ (d : Contains hs k). false_from_ne_true (is_nearer (leaving x) (leaving k) (leaving s)) (λ u. between k node near differ d from u))
           (contains_cases k x hs c);
-      alone = λ q. absurd (not_x s h.second q);
+      alone = λ q. absurd (not_fresh hs x fresh s h.second q);
     }
 
     at_node : x.from_node ≡ t.from_node → r t.on_right ≡ r s.on_left

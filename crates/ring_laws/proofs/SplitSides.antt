@@ -31,6 +31,7 @@ use Rattle.face_rings.proofs.Ranks.{by_bool}
 use Rattle.ring_laws.proofs.Alike.{Alike, alike_one, alike_same, one_way, other_way, IsLike, like_self, Correspond, joined_like}
 use Rattle.ring_laws.proofs.Known.{any_in, any_same, IsKnown, not_isolated, none_ends, none_leaves, known_kept}
 use Rattle.ring_laws.proofs.KnownStays.{end_is, new_isolated}
+pub use Rattle.ring_laws.proofs.WithoutEdge.{half_there}
 use Rattle.ring_laws.proofs.Turning.{AreJoined, spread_of}
 
 -- ---- the directions of the parts
@@ -97,10 +98,6 @@ pub record IsSplitInto (S : Drawing) (e : Edge) (p : Point) (id id' : ℕ) (fs :
   pub on : on_line p e.geom ≡ true
   pub not_first : SameCoordinates p (first_vertex e.geom) → ⊥
   pub not_last : SameCoordinates p (last_vertex e.geom) → ⊥
-
-pub half_there : (edges : List Edge) (k : HalfEdge) (x : Edge) → Contains edges x → (forward_of x ≡ k) ⊎ (backward_of x ≡ k) → Contains (flat_map both_ways edges) k
-half_there edges k x c way =
-    ⊎_elim (λ (p : forward_of x ≡ k). subst (Contains (flat_map both_ways edges)) p (forward_there edges x c)) (λ (p : backward_of x ≡ k). subst (Contains (flat_map both_ways edges)) p (backward_there edges x c)) way
 
 node_of : {h k : HalfEdge} → h ≡ k → h.from_node ≡ k.from_node
 node_of e = ap (λ (x : HalfEdge). x.from_node) e

@@ -2,6 +2,7 @@
 use Rattle.std.proofs.Common.{◌≡◌, refl, sym, ◌∙◌, ap, subst, ◌⊎◌, inl, inr, ⊎_elim, Bool, true, false, not, List}
 use Rattle.std.specs.Prelude.{◌==◌, filter}
 use Rattle.std.specs.List.{Contains}
+use Rattle.std.proofs.Math.Bool.{not-not}
 use Rattle.std.proofs.lemmas.Bool.{and_parts, and_from, eqb-true, eq-eqb, false≢true, false_from_ne_true, not-true}
 use Rattle.std.proofs.lemmas.List.{reverse-reverse}
 use Rattle.std.proofs.lemmas.List.Elements.{All-contains}
@@ -107,11 +108,7 @@ turns_one hs t s m a h g =
 
 -- ---- what follows a half-edge is next after it, walked back
 pub twin_twin : (h : HalfEdge) → twin (twin h) ≡ h
-twin_twin h = let a = not_not h.is_forward in let b = reverse-reverse h.points in λ i. record h { is_forward = a i; points = b i }
-  where
-    not_not : (b : Bool) → not (not b) ≡ b
-    not_not true = refl
-    not_not false = refl
+twin_twin h = let a = not-not h.is_forward in let b = reverse-reverse h.points in λ i. record h { is_forward = a i; points = b i }
 
 follows : (S : Drawing) (h k : HalfEdge) → HasPlainLines S → Contains (half_edges S) h → Contains (half_edges S) k → k.from_node ≡ h.to_node → (k ≡ twin h → ⊥) → Contains (filter (may_follow h) (half_edges S)) k
 follows S h k good ch ck from other =

@@ -1,14 +1,14 @@
 -- The drawing without an isolated edge.
-use Rattle.std.proofs.Common.{◌≡◌, ℕ, sym, ◌∙◌, ap, subst, ◌⊎◌, ⊎_elim, true, false, not, ◌&&◌, ◌==◌, List}
+use Rattle.std.proofs.Common.{◌≡◌, sym, ◌∙◌, ap, subst, ◌⊎◌, ⊎_elim, true, false, not, ◌&&◌, ◌==◌, List}
 use Rattle.std.specs.Prelude.{flat_map}
-use Rattle.std.specs.List.{Contains, list_any}
-use Rattle.std.proofs.lemmas.Bool.{and_parts, and_from, or_left, or_right, eqb-true, eq-eqb, false≢true, false_from_ne_true, not-true}
+use Rattle.std.specs.List.{Contains}
+use Rattle.std.proofs.lemmas.Bool.{and_parts, or_left, or_right, eqb-true, eq-eqb, false≢true, false_from_ne_true, not-true}
 use Rattle.drawing.specs.Drawing.{Drawing, Edge, edge_id_of, is_end_of, has_only}
 use Rattle.drawing.specs.HalfEdge.{HalfEdge, forward_of, backward_of, both_ways, half_edges}
 use Rattle.drawing.specs.IsoEdits.{is_isolated_edge}
 use Rattle.drawing.specs.Rows.{without_row}
-use Rattle.plane.proofs.ListTests.{Decides-any}
-use Rattle.drawing.proofs.Members.{contains-filter, contains-filtered}
+use Rattle.drawing.proofs.Members.{contains-filter}
+use Rattle.edit_changes.proofs.PlainHealing.{left_over, no_third}
 use Rattle.face_rings.proofs.HalfLines.{HasPlainLines}
 use Rattle.face_rings.proofs.HalvesApart.{IsHalf, half_of, forward_there, backward_there, one_edge}
 use Rattle.face_rings.proofs.Ranks.{by_bool}
@@ -33,15 +33,6 @@ leaves_end edges h r =
     (λ (p : backward_of r.edge ≡ h). or_right (r.edge.start_node == h.from_node) (r.edge.end_node == h.from_node) (eq-eqb r.edge.end_node h.from_node (ap (λ (x : HalfEdge). x.from_node) p)))
     r.way
 
--- no other edge has an end there
-pub no_other : (S : Drawing) (n id : ℕ) (x : Edge) → has_only S n id id ≡ true → Contains S.edges x → (x.edge_id ≡ id → ⊥) → is_end_of n x ≡ true → ⊥
-no_other S n id x only c other ends =
-    let test = λ (y : Edge). is_end_of n y && not (y.edge_id == id) && not (y.edge_id == id) in
-    let far : not (x.edge_id == id) ≡ true = ap not (false_from_ne_true (x.edge_id == id) (λ t. other (eqb-true x.edge_id id t))) in
-    let any = (Decides-any test (λ y. test y ≡ true) (λ y. (λ t. t, λ t. t)) S.edges).1
-    (x, (c, and_from (is_end_of n x && not (x.edge_id == id)) (not (x.edge_id == id)) (and_from (is_end_of n x) (not (x.edge_id == id)) ends far) far)) in
-    false≢true (sym (not-true (list_any test S.edges) only) ∙ any)
-
 -- both ends of an isolated edge are its own
 pub record IsAlone (S : Drawing) (e : Edge) : Type 0 where
   pub differ : e.start_node ≡ e.end_node → ⊥
@@ -55,8 +46,8 @@ alone_of S e h =
     let first = and_parts differ (has_only S e.start_node e.edge_id e.edge_id) both.0 in
     record {
       differ = λ p. false≢true (sym (not-true (e.start_node == e.end_node) first.0) ∙ eq-eqb e.start_node e.end_node p);
-      at_start = λ x c other ends. no_other S e.start_node e.edge_id x first.1 c other ends;
-      at_end = λ x c other ends. no_other S e.end_node e.edge_id x both.1 c other ends;
+      at_start = λ x c other ends. no_third S e.start_node e.edge_id e.edge_id x first.1 c other other ends;
+      at_end = λ x c other ends. no_third S e.end_node e.edge_id e.edge_id x both.1 c other other ends;
     }
 
 -- ---- edges with other ids
@@ -64,17 +55,17 @@ pub kept_edge : (edges : List Edge) (e x : Edge) → Contains edges x → (x.edg
 kept_edge edges e x c other = contains-filter (λ (r : Edge). not (edge_id_of r == e.edge_id)) x edges c (ap not (false_from_ne_true (x.edge_id == e.edge_id) (λ t. other (eqb-true x.edge_id e.edge_id t))))
 
 pub was_edge : (edges : List Edge) (e x : Edge) → Contains (without_row edge_id_of edges e.edge_id) x → Contains edges x × (x.edge_id ≡ e.edge_id → ⊥)
-was_edge edges e x c =
-    let r = contains-filtered (λ (r : Edge). not (edge_id_of r == e.edge_id)) x edges c in
-    (r.0, λ p. false≢true (sym (not-true (x.edge_id == e.edge_id) r.1) ∙ eq-eqb x.edge_id e.edge_id p))
+was_edge edges e x c = left_over edges e.edge_id x c
 
 -- ---- the rings
+-- each way along an edge of the drawing is one of its half-edges
+pub half_there : (edges : List Edge) (k : HalfEdge) (x : Edge) → Contains edges x → (forward_of x ≡ k) ⊎ (backward_of x ≡ k) → Contains (flat_map both_ways edges) k
+half_there edges k x c way =
+    ⊎_elim (λ (p : forward_of x ≡ k). subst (Contains (flat_map both_ways edges)) p (forward_there edges x c)) (λ (p : backward_of x ≡ k). subst (Contains (flat_map both_ways edges)) p (backward_there edges x c)) way
+
 pub without_edge_joined : (S : Drawing) (e : Edge) → HasPlainLines S → Contains S.edges e → IsAlone S e → AreJoined (half_edges S) → AreJoined (flat_map both_ways (without_row edge_id_of S.edges e.edge_id))
 without_edge_joined S e good ce alone joined = joined_less (half_edges S) (flat_map both_ways (without_row edge_id_of S.edges e.edge_id)) into kept joined
   where
-    half_there : (edges : List Edge) (k : HalfEdge) (x : Edge) → Contains edges x → (forward_of x ≡ k) ⊎ (backward_of x ≡ k) → Contains (flat_map both_ways edges) k
-    half_there edges k x c way = ⊎_elim (λ (p : forward_of x ≡ k). subst (Contains (flat_map both_ways edges)) p (forward_there edges x c)) (λ (p : backward_of x ≡ k). subst (Contains (flat_map both_ways edges)) p (backward_there edges x c)) way
-
     into : (k : HalfEdge) → Contains (flat_map both_ways (without_row edge_id_of S.edges e.edge_id)) k → Contains (half_edges S) k
     into k c = let r = half_of (without_row edge_id_of S.edges e.edge_id) k c in half_there S.edges k r.edge (was_edge S.edges e r.edge r.there).0 r.way
 

@@ -1,9 +1,9 @@
--- Each edit of layers and features keeps what is known of them and of their rows.
-use Rattle.std.proofs.Common.{◌≡◌, ◌∙◌, ℕ, ◌+◌, refl, sym, ap, subst, arith, ⊎_elim, Bool, true, false, not, cond, ◌&&◌, ◌||◌, ◌==◌, eqb, eqb-true, eq-eqb, List, [], ◌∷◌, ◌++◌, filter, Option, Some, None, is_some, Ok}
+-- Layers that come, and rows that come and go, keep what is known of layers, features and rows.
+use Rattle.std.proofs.Common.{◌≡◌, ◌∙◌, ℕ, ◌+◌, refl, sym, ap, subst, arith, ⊎_elim, Bool, true, false, not, cond, ◌&&◌, ◌==◌, eqb, eqb-true, eq-eqb, List, [], ◌∷◌, ◌++◌, filter, Option, Some, None, is_some}
 use Rattle.std.specs.List.{Contains, list_all, list_any}
 use Rattle.std.specs.Option.{option_or}
 use Rattle.std.specs.Str.{bytes_eq}
-use Rattle.std.proofs.lemmas.Bool.{and_from, and_parts}
+use Rattle.std.proofs.lemmas.Bool.{and_from, and_parts, cond_both, not-true, or_from, or_parts}
 use Rattle.std.proofs.lemmas.List.Folds.{list_all-append, list_any-append}
 use Rattle.topo_base.specs.Kinds.{kind_number}
 use Rattle.topo_base.specs.declared.edit.Pair.{Pair}
@@ -12,24 +12,18 @@ use Rattle.topo_base.specs.declared.kind.Kind.TheVariants.{Puntal, Lineal, Areal
 use Rattle.topo_base.specs.declared.rows.FeatureRow.{FeatureRow}
 use Rattle.topo_base.specs.declared.rows.LayerRow.{LayerRow}
 use Rattle.topo_base.specs.declared.rows.RelationRow.{RelationRow}
-use Rattle.topo_base.specs.declared.rule.Rule.{Rule}
-use Rattle.drawing.specs.Drawing.{Drawing, feature_at, feature_id_of, layer_at, layer_id_of}
-use Rattle.drawing.specs.Layers.{element_rule, is_name_taken, row_for, same_kind, is_element_listed}
-use Rattle.drawing.specs.Edits.{add_element, add_element_on, add_layer, layer_on, new_layer, rem_element, with_element}
-use Rattle.drawing.specs.Outcome.{the_feature, the_layer}
-use Rattle.drawing.specs.Relations.{insert_row, ordered, same_row}
+use Rattle.drawing.specs.Drawing.{Drawing, layer_at, layer_id_of}
+use Rattle.drawing.specs.Layers.{element_rule, is_name_taken, row_for, same_kind}
+use Rattle.drawing.specs.Relations.{insert_row, ordered}
 use Rattle.drawing.specs.Rows.{row_at}
 use Rattle.drawing.specs.Subdivision.{is_above, is_layer_known, is_row_known, is_row_of, names_differ}
-use Rattle.drawing.specs.Change.{FeatureLists, FeatureUnlists}
-use Rattle.topo_base.specs.declared.rule.Rule.TheVariants.{ElementListed, ElementNotListed}
-use Rattle.drawing.proofs.Keeping.{Keeps, refused, refuses_else, refuses_or}
 use Rattle.drawing.proofs.Members.{contains-filtered, contains-found, ids_within}
 use Rattle.plane.proofs.ListTests.{all_weaker}
 use Rattle.drawing.proofs.Ordering.{InOrder}
 use Rattle.drawing.proofs.RowLemmas.{row_at-append}
 use Rattle.relation_rows.proofs.Putting.{AllAfter, Ascend, ascend_of, ascend_put}
 use Rattle.ring_laws.proofs.Known.{all_in}
-use Rattle.reference_laws.proofs.DrawingEdits.{KeepsRows, keep}
+use Rattle.edit_changes.specs.Evidence.{FeatureMayList, IsLevel, LayerMayCome}
 use Rattle.reference_laws.proofs.Followed.{ascend_test, each_row, in_put}
 use Rattle.reference_laws.proofs.KnownRows.{IsRow, KnowsRows, has_listed, has_of, number_in, row_from, row_parts, rule_is}
 
@@ -44,9 +38,6 @@ found (Some r) h = record { row = r; is = refl }
 
 pub found_more : {R : Type 0} (id : R → ℕ) (rows : List R) (new r : R) (n : ℕ) → row_at id rows n ≡ Some r → row_at id (rows ++ new ∷ []) n ≡ Some r
 found_more id rows new r n e = row_at-append id rows new n ∙ ap (λ o. option_or o (cond (eqb (id new) n) (Some new) None)) e
-
-pub found_id : {R : Type 0} (id : R → ℕ) (rows : List R) (n : ℕ) (r : R) → row_at id rows n ≡ Some r → id r ≡ n
-found_id id rows n r e = eqb-true (id r) n (contains-found (λ x. id x == n) r rows e).1
 
 -- the row that comes with the next id is found
 none_or : {R : Type 0} (o : Option R) → ((r : R) → o ≡ Some r → ⊥) → o ≡ None
@@ -75,19 +66,10 @@ names_more : (ls : List LayerRow) (new : LayerRow) → names_differ ls ≡ true 
 names_more [] new h free = refl
 names_more (l ∷ ls) new h free =
     let parts = and_parts (not (list_any (λ (m : LayerRow). bytes_eq l.name m.name) ls)) (names_differ ls) h in
-    let both = none_of (bytes_eq l.name new.name) (list_any (λ (m : LayerRow). bytes_eq m.name new.name) ls) free in
+    let both = or_parts (bytes_eq l.name new.name) (list_any (λ (m : LayerRow). bytes_eq m.name new.name) ls) free in
     and_from (not (list_any (λ (m : LayerRow). bytes_eq l.name m.name) (ls ++ new ∷ []))) (names_differ (ls ++ new ∷ []))
-    (ap not (list_any-append (λ (m : LayerRow). bytes_eq l.name m.name) ls (new ∷ []) ∙ ap (λ b. list_any (λ (m : LayerRow). bytes_eq l.name m.name) ls || (b || false)) both.0)
-    ∙ ap not (or_none (list_any (λ (m : LayerRow). bytes_eq l.name m.name) ls)) ∙ parts.0)
+    (ap not (list_any-append (λ (m : LayerRow). bytes_eq l.name m.name) ls (new ∷ []) ∙ or_from _ _ (not-true _ parts.0) (or_from (bytes_eq l.name new.name) false both.0 refl)))
     (names_more ls new parts.1 both.1)
-  where
-    none_of : (a b : Bool) → (a || b) ≡ false → (a ≡ false) × (b ≡ false)
-    none_of true b h = absurd cc
-    none_of false b h = (refl, h)
-
-    or_none : (a : Bool) → (a || (false || false)) ≡ a
-    or_none true = refl
-    or_none false = refl
 
 some_more : (S T : Drawing) (n : ℕ) → ((m : ℕ) (l : LayerRow) → layer_at S m ≡ Some l → layer_at T m ≡ Some l) → is_some (layer_at S n) ≡ true → is_some (layer_at T n) ≡ true
 some_more S T n more h = let f = found (layer_at S n) h in ap is_some (more n f.row f.is)
@@ -123,32 +105,21 @@ layer_more S new next free known knows = record {
         by None h = kind_by k.layer.feature_type h
         by (Some c) h = h
 
-kinds_turned : (a b : Kind) → not (same_kind a b) ≡ false → same_kind b a ≡ true
-kinds_turned a b h = by (same_kind a b) refl h
-  where
-    by : (t : Bool) → same_kind a b ≡ t → not t ≡ false → same_kind b a ≡ true
-    by true e k = eq-eqb (kind_number b) (kind_number a) (sym (eqb-true (kind_number a) (kind_number b) e))
-    by false e k = absurd cc
+kinds_turned : (a b : Kind) → same_kind a b ≡ true → same_kind b a ≡ true
+kinds_turned a b h = eq-eqb (kind_number b) (kind_number a) (sym (eqb-true (kind_number a) (kind_number b) h))
 
-above : (S : Drawing) (name : List ℕ) (kind : Kind) (n : ℕ) (o : Option LayerRow) → layer_at S n ≡ o → is_name_taken S name ≡ false → KnowsRows S → Keeps KeepsRows S (layer_on S name kind o)
-above S name kind n None e free knows = refused KeepsRows S _
-above S name kind n (Some child) e free knows =
-    refuses_else KeepsRows S _ _ _ (λ same. keep S _ (the_layer S.next_ids.layer ∷ []) (layer_more S new (S.next_ids.layer + 1) free (λ T is.
-    let there : layer_at T child.layer_id ≡ Some child =
-    ap (λ (ls : List LayerRow). row_at layer_id_of ls child.layer_id) is ∙ found_more layer_id_of S.layers new child child.layer_id (ap (λ m. row_at layer_id_of S.layers m) (found_id layer_id_of S.layers n child e) ∙ e) in
-    ap (is_above new) there
-    ∙ and_from (child.level + 1 == child.level + 1) (same_kind kind child.feature_type) (eq-eqb (child.level + 1) (child.level + 1) refl) (kinds_turned child.feature_type kind same)) knows))
-  where
-    new : LayerRow
-    new = record { layer_id = S.next_ids.layer; level = child.level + 1; child_id = Some child.layer_id; feature_type = kind; name = name }
+-- the child stands in any drawing with a layer more
+layer_stands : (S T : Drawing) (new : LayerRow) (kind : Kind) (child : Option ℕ) (level : ℕ) → IsLevel S kind child level → T.layers ≡ S.layers ++ new ∷ [] → new.level ≡ level → new.feature_type ≡ kind → is_layer_known T new child ≡ true
+layer_stands S T new kind None level k is l t = eq-eqb new.level 0 (l ∙ k)
+layer_stands S T new kind (Some child) level k is l t =
+    ap (is_above new) (ap (λ (ls : List LayerRow). row_at layer_id_of ls child) is ∙ found_more layer_id_of S.layers new k.row child k.found)
+    ∙ and_from (new.level == k.row.level + 1) (same_kind new.feature_type k.row.feature_type) (eq-eqb new.level (k.row.level + 1) (l ∙ sym k.level_is)) (subst (λ a. same_kind a k.row.feature_type ≡ true) (sym t) (kinds_turned k.row.feature_type kind k.kind_is))
 
-pub layer : (S : Drawing) (name : List ℕ) (kind : Kind) (child : Option ℕ) → KnowsRows S → Keeps KeepsRows S (add_layer S name kind child)
-layer S name kind child knows = refuses_else KeepsRows S _ _ _ (λ free. by child free)
-  where
-    by : (o : Option ℕ) → is_name_taken S name ≡ false → Keeps KeepsRows S (new_layer S name kind o)
-    by None free =
-        keep S _ (the_layer S.next_ids.layer ∷ []) (layer_more S (record { layer_id = S.next_ids.layer; level = 0; child_id = None; feature_type = kind; name = name }) (S.next_ids.layer + 1) free (λ T is. refl) knows)
-    by (Some c) free = above S name kind c (layer_at S c) refl free knows
+pub layer_came : (S : Drawing) (name : List ℕ) (kind : Kind) (child : Option ℕ) (level : ℕ) → LayerMayCome S name kind child level → KnowsRows S
+    → KnowsRows (record S { layers = S.layers ++ record { layer_id = S.next_ids.layer; level = level; child_id = child; feature_type = kind; name = name } ∷ []; next_ids = record (S.next_ids) { layer = S.next_ids.layer + 1 } })
+layer_came S name kind child level k knows =
+    let new : LayerRow = record { layer_id = S.next_ids.layer; level = level; child_id = child; feature_type = kind; name = name } in
+    layer_more S new (S.next_ids.layer + 1) k.unnamed (λ T is. layer_stands S T new kind child level k.stands is refl refl) knows
 
 -- ---- rows come and go
 rows_only : (S : Drawing) (rows : List RelationRow) → ((r : RelationRow) → Contains rows r → IsRow S r) → Ascend rows → KnowsRows S → KnowsRows (record S { relations = rows })
@@ -166,61 +137,33 @@ rule_parts S l x e =
     let both = and_parts (x.element_type == number_in l.feature_type l.child_id) (has_listed S l.feature_type l.child_id x.id) (sym (rule_is S l.feature_type l.child_id x) ∙ ap (λ o. not (is_some o)) e) in
     (eqb-true x.element_type (number_in l.feature_type l.child_id) both.0, both.1)
 
-element_by : (S : Drawing) (n : ℕ) (t : FeatureRow) (l : LayerRow) (x : Pair) (o : Option Rule) → element_rule S l x ≡ o → feature_at S n ≡ Some t → layer_at S t.layer_id ≡ Some l → KnowsRows S
-    → Keeps KeepsRows S (with_element S (row_for t.feature_id l.layer_id x) o)
-element_by S n t l x (Some rule) e ft lt knows = refused KeepsRows S _
-element_by S n t l x None e ft lt knows =
-    refuses_or KeepsRows S (is_element_listed S row) ElementListed (Ok (FeatureLists row)) (keep S _ (the_feature row.topogeo_id ∷ []) (rows_only S (insert_row row S.relations) each (ascend_put row S.relations (ascend_of S.relations knows.ascend)) knows))
+pub row_came : (S : Drawing) (row : RelationRow) → FeatureMayList S row → KnowsRows S → KnowsRows (record S { relations = insert_row row S.relations })
+row_came S row k knows = rows_only S (insert_row row S.relations) each (ascend_put row S.relations (ascend_of S.relations knows.ascend)) knows
   where
-    row : RelationRow
-    row = row_for t.feature_id l.layer_id x
-
-    layer_is : l.layer_id ≡ t.layer_id
-    layer_is = found_id layer_id_of S.layers t.layer_id l lt
-
     is : IsRow S row
     is =
-        let parts = rule_parts S l x e in
-        record {
-          feature = ap (is_row_of row) (ap (λ m. row_at feature_id_of S.features m) (found_id feature_id_of S.features n t ft) ∙ ft) ∙ eq-eqb l.layer_id t.layer_id layer_is;
+        let t = k.feature in
+        let l = k.layer in
+        let parts = rule_parts S l k.element k.allowed in
+        subst (IsRow S) (sym k.row_is) (record {
+          feature = ap (is_row_of (row_for t.feature_id l.layer_id k.element)) k.feature_found ∙ eq-eqb l.layer_id t.layer_id k.layer_is;
           layer = l;
-          there = ap (λ m. row_at layer_id_of S.layers m) layer_is ∙ lt;
+          there = k.layer_found;
           type = parts.0;
           listed = parts.1;
-        }
+        })
 
     each : (r : RelationRow) → Contains (insert_row row S.relations) r → IsRow S r
     each r c = ⊎_elim (λ (q : row ≡ r). subst (IsRow S) q is) (λ (k : Contains S.relations r). each_row S knows r k) (in_put row r S.relations c)
 
-pub element : (S : Drawing) (n : ℕ) (t : Option FeatureRow) (x : Pair) → feature_at S n ≡ t → KnowsRows S → Keeps KeepsRows S (add_element S t x)
-element S n None x e knows = refused KeepsRows S _
-element S n (Some t) x e knows = by (layer_at S t.layer_id) refl
-  where
-    by : (o : Option LayerRow) → layer_at S t.layer_id ≡ o → Keeps KeepsRows S (add_element_on S t o x)
-    by None h = refused KeepsRows S _
-    by (Some l) h = element_by S n t l x (element_rule S l x) refl e h knows
-
 -- fewer rows
 after_filter : (q : RelationRow → Bool) (a : RelationRow) (rows : List RelationRow) → AllAfter a rows → AllAfter a (filter q rows)
 after_filter q a [] h = tt
-after_filter q a (b ∷ rows) h = by (q b) (after_filter q a rows h.1)
-  where
-    by : (t : Bool) → AllAfter a (filter q rows) → AllAfter a (cond t (b ∷ filter q rows) (filter q rows))
-    by true rest = (h.0, rest)
-    by false rest = rest
+after_filter q a (b ∷ rows) h = let rest = after_filter q a rows h.1 in cond_both (q b) (b ∷ filter q rows) (filter q rows) (AllAfter a) (λ _. (h.0, rest)) (λ _. rest)
 
 pub ascend_filter : (q : RelationRow → Bool) (rows : List RelationRow) → Ascend rows → Ascend (filter q rows)
 ascend_filter q [] h = tt
-ascend_filter q (b ∷ rows) h = by (q b) (ascend_filter q rows h.1)
-  where
-    by : (t : Bool) → Ascend (filter q rows) → Ascend (cond t (b ∷ filter q rows) (filter q rows))
-    by true rest = (after_filter q b rows h.0, rest)
-    by false rest = rest
+ascend_filter q (b ∷ rows) h = let rest = ascend_filter q rows h.1 in cond_both (q b) (b ∷ filter q rows) (filter q rows) Ascend (λ _. (after_filter q b rows h.0, rest)) (λ _. rest)
 
-pub less : (S : Drawing) (t : Option FeatureRow) (x : Pair) → KnowsRows S → Keeps KeepsRows S (rem_element S t x)
-less S None x knows = refused KeepsRows S _
-less S (Some t) x knows =
-    let row = row_for t.feature_id t.layer_id x in
-    let test : RelationRow → Bool = λ r. not (same_row row r) in
-    refuses_or KeepsRows S (not (is_element_listed S row)) ElementNotListed (Ok (FeatureUnlists row)) (keep S _ (the_feature t.feature_id ∷ [])
-    (rows_only S (filter test S.relations) (λ r c. each_row S knows r (contains-filtered test r S.relations c).0) (ascend_filter test S.relations (ascend_of S.relations knows.ascend)) knows))
+pub rows_gone : (S : Drawing) (test : RelationRow → Bool) → KnowsRows S → KnowsRows (record S { relations = filter test S.relations })
+rows_gone S test knows = rows_only S (filter test S.relations) (λ r c. each_row S knows r (contains-filtered test r S.relations c).0) (ascend_filter test S.relations (ascend_of S.relations knows.ascend)) knows

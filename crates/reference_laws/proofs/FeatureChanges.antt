@@ -12,24 +12,21 @@ use Rattle.topo_base.specs.declared.rows.LayerRow.{LayerRow}
 use Rattle.topo_base.specs.declared.rows.RelationRow.{RelationRow}
 use Rattle.topo_base.specs.declared.rule.Rule.{Rule}
 use Rattle.topo_base.specs.declared.rule.Rule.TheVariants.{ElementListed}
-use Rattle.drawing.specs.Drawing.{Drawing, edge_id_of, feature_at, feature_id_of, node_id_of, layer_at, layer_id_of}
+use Rattle.drawing.specs.Drawing.{Drawing, edge_id_of, feature_at, feature_id_of, node_id_of, layer_at}
 use Rattle.drawing.specs.Layers.{element_rule, elements_rule, is_feature_of, missing, or_else, row_for, same_pair}
-use Rattle.drawing.specs.Edits.{create_topo_geom, drop_feature, with_feature}
-use Rattle.drawing.specs.Outcome.{the_feature}
 use Rattle.drawing.specs.Relations.{is_hierarchical, lists_feature, ordered, row_before}
 use Rattle.drawing.specs.Rows.{has_row, row_at, without_row}
 use Rattle.drawing.specs.Subdivision.{is_row_known, is_row_of}
-use Rattle.drawing.proofs.Keeping.{Keeps, refused, refuses_else}
 use Rattle.plane.proofs.ListTests.{contains_cases, contains_here, contains_none, contains_there}
 use Rattle.drawing.proofs.Members.{contains-filtered, contains-found, contains-mapped, ids_within}
 use Rattle.drawing.proofs.Ordering.{InOrder}
 use Rattle.drawing.proofs.RowLemmas.{row_at-without_other}
 use Rattle.relation_rows.proofs.Putting.{AllAfter, Ascend, ascend_of}
 use Rattle.ring_laws.proofs.Known.{all_in, all_out, any_in}
-use Rattle.reference_laws.proofs.DrawingEdits.{KeepsRows, keep}
 use Rattle.reference_laws.proofs.Followed.{ascend_ordered, ascend_test, each_row, in_ordered}
 use Rattle.reference_laws.proofs.KnownRows.{IsRow, KnowsRows, has_listed, has_of, hierarchical_of, row_from}
-use Rattle.reference_laws.proofs.LayerEdits.{ascend_filter, found_id, found_more, found_new, rule_parts}
+use Rattle.edit_changes.specs.Evidence.{FeatureMayCome}
+use Rattle.reference_laws.proofs.LayerChanges.{ascend_filter, found_more, found_new, rule_parts}
 
 -- ---- a row where the features are others
 kind_same : (S T : Drawing) (kind : Kind) (id : ℕ) → T.nodes ≡ S.nodes → T.edges ≡ S.edges → T.faces ≡ S.faces → has_of S kind id ≡ true → has_of T kind id ≡ true
@@ -97,17 +94,16 @@ below_new S r ordered k = by (feature_at S r.topogeo_id) refl k.feature
         let c = contains-found (λ x. feature_id_of x == r.topogeo_id) t S.features e in
         subst (λ n. n < S.next_ids.feature) (eqb-true t.feature_id r.topogeo_id c.1) (ids_within feature_id_of 1 S.next_ids.feature S.features t ordered c.0).1
 
-feature_by : (S : Drawing) (l : LayerRow) (xs : List Pair) (o : Option Rule) → elements_rule S l [] xs ≡ o → InOrder feature_id_of 1 S.next_ids.feature S.features → layer_at S l.layer_id ≡ Some l → KnowsRows S
-    → Keeps KeepsRows S (with_feature S l xs o)
-feature_by S l xs (Some rule) e below lt knows = refused KeepsRows S _
-feature_by S l xs None e below lt knows = keep S T (the_feature new ∷ []) (record {
+pub feature_came : (S : Drawing) (l : LayerRow) (xs : List Pair) → FeatureMayCome S l xs → InOrder feature_id_of 1 S.next_ids.feature S.features → KnowsRows S
+    → KnowsRows (with_features S (S.features ++ record { feature_id = S.next_ids.feature; layer_id = l.layer_id } ∷ []) (S.relations ++ ordered (map (row_for S.next_ids.feature l.layer_id) xs)) (S.next_ids.feature + 1))
+feature_came S l xs k below knows = record {
   layers = knows.layers;
   names = knows.names;
   features = list_all-append (λ (t : FeatureRow). is_some (layer_at S t.layer_id)) S.features (feature ∷ [])
-      ∙ and_from (list_all (λ (t : FeatureRow). is_some (layer_at S t.layer_id)) S.features) (is_some (layer_at S l.layer_id) && true) knows.features (and_from (is_some (layer_at S l.layer_id)) true (ap is_some lt) refl);
+      ∙ and_from (list_all (λ (t : FeatureRow). is_some (layer_at S t.layer_id)) S.features) (is_some (layer_at S l.layer_id) && true) knows.features (and_from (is_some (layer_at S l.layer_id)) true (ap is_some k.found) refl);
   relations = all_in (is_row_known T) T.relations (λ r c. row_from T r (⊎_elim (λ (d : Contains S.relations r). old r d) (λ (d : Contains (ordered_rows) r). fresh r d) (Contains-append_cases S.relations ordered_rows r c)));
   ascend = ascend_test T.relations (ascend_append S.relations ordered_rows (ascend_of S.relations knows.ascend) (ascend_ordered rows) (λ a b c d. before_by a b (subst (λ n. a.topogeo_id < n) (sym (topogeo_of b d)) (below_new S a below (each_row S knows a c)))));
-})
+}
   where
     new : ℕ
     new = S.next_ids.feature
@@ -129,8 +125,8 @@ feature_by S l xs None e below lt knows = keep S T (the_feature new ∷ []) (rec
 
     old : (r : RelationRow) → Contains S.relations r → IsRow T r
     old r c =
-        let k = each_row S knows r c in
-        row_stays S (S.features ++ feature ∷ []) (S.relations ++ ordered rows) (new + 1) r k (row_more r (feature_at S r.topogeo_id) (feature_at T r.topogeo_id) (more r.topogeo_id) k.feature)
+        let q = each_row S knows r c in
+        row_stays S (S.features ++ feature ∷ []) (S.relations ++ ordered rows) (new + 1) r q (row_more r (feature_at S r.topogeo_id) (feature_at T r.topogeo_id) (more r.topogeo_id) q.feature)
         (λ ch _ h. feature_more ch (feature_at S r.element_id) (feature_at T r.element_id) (more r.element_id) h)
 
     topogeo_of : (r : RelationRow) → Contains (ordered rows) r → r.topogeo_id ≡ new
@@ -139,7 +135,7 @@ feature_by S l xs None e below lt knows = keep S T (the_feature new ∷ []) (rec
     fresh : (r : RelationRow) → Contains (ordered rows) r → IsRow T r
     fresh r c =
         let m = contains-mapped (row_for new l.layer_id) r xs (in_ordered r rows c) in
-        subst (IsRow T) m.1.1 (of_pair m.0 (each_rule S l [] xs e m.0 m.1.0))
+        subst (IsRow T) m.1.1 (of_pair m.0 (each_rule S l [] xs k.allowed m.0 m.1.0))
       where
         of_pair : (x : Pair) → element_rule S l x ≡ None → IsRow T (row_for new l.layer_id x)
         of_pair x free =
@@ -147,7 +143,7 @@ feature_by S l xs None e below lt knows = keep S T (the_feature new ∷ []) (rec
             record {
               feature = ap (is_row_of (row_for new l.layer_id x)) (found_new feature_id_of 1 new S.features feature below refl) ∙ eq-eqb l.layer_id l.layer_id refl;
               layer = l;
-              there = lt;
+              there = k.found;
               type = parts.0;
               listed = by l.child_id parts.1;
             }
@@ -156,20 +152,16 @@ feature_by S l xs None e below lt knows = keep S T (the_feature new ∷ []) (rec
             by None h = kind_same S T l.feature_type x.id refl refl refl h
             by (Some ch) h = feature_more ch (feature_at S x.id) (feature_at T x.id) (more x.id) h
 
-pub feature : (S : Drawing) (n : ℕ) (l : Option LayerRow) (xs : List Pair) → layer_at S n ≡ l → InOrder feature_id_of 1 S.next_ids.feature S.features → KnowsRows S → Keeps KeepsRows S (create_topo_geom S l xs)
-feature S n None xs e ordered knows = refused KeepsRows S _
-feature S n (Some l) xs e ordered knows = feature_by S l xs (elements_rule S l [] xs) refl ordered (ap (λ m. row_at layer_id_of S.layers m) (found_id layer_id_of S.layers n l e) ∙ e) knows
-
 -- ---- a feature goes
-pub gone_feature : (S : Drawing) (t : Option FeatureRow) → KnowsRows S → Keeps KeepsRows S (drop_feature S t)
-gone_feature S None knows = refused KeepsRows S _
-gone_feature S (Some t) knows = refuses_else KeepsRows S _ _ _ (λ free. keep S T (the_feature t.feature_id ∷ []) (record {
+pub feature_gone : (S : Drawing) (t : FeatureRow) → list_any (lists_feature S t.feature_id) S.relations ≡ false → KnowsRows S
+    → KnowsRows (with_features S (without_row feature_id_of S.features t.feature_id) (filter (λ (r : RelationRow). not (r.topogeo_id == t.feature_id)) S.relations) S.next_ids.feature)
+feature_gone S t free knows = record {
   layers = knows.layers;
   names = knows.names;
   features = all_in (λ (s : FeatureRow). is_some (layer_at S s.layer_id)) T.features (λ s c. all_out (λ (s : FeatureRow). is_some (layer_at S s.layer_id)) S.features s knows.features (contains-filtered (λ (s : FeatureRow). not (feature_id_of s == t.feature_id)) s S.features c).0);
   relations = all_in (is_row_known T) T.relations (λ r c. let d = contains-filtered test r S.relations c in row_from T r (stays free r d.0 d.1));
   ascend = ascend_test T.relations (ascend_filter test S.relations (ascend_of S.relations knows.ascend));
-}))
+}
   where
     test : RelationRow → Bool
     test r = not (r.topogeo_id == t.feature_id)
