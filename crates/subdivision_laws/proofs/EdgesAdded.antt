@@ -10,11 +10,10 @@ use Rattle.drawing.specs.Faces.{face_after}
 use Rattle.drawing.specs.HalfEdge.{half_edges, leaves}
 use Rattle.drawing.specs.IsoEdits.{with_edge}
 use Rattle.plane.specs.Line.{last_vertex}
-use Rattle.drawing.specs.PlainInOrder.{IsPlainInOrder}
 use Rattle.drawing.specs.Star.{last_clockwise}
-use Rattle.drawing.proofs.PlainParts.{parts_of, plain_of}
+use Rattle.drawing.proofs.PlainParts.{plain_of}
 use Rattle.edit_changes.specs.Evidence.{EdgeMayCome, OpenEdgeMayCome, FaceMayBeDivided, left_ring, right_ring}
-use Rattle.edit_changes.proofs.PlainStaying.{HasPlain, edge_more}
+use Rattle.edit_changes.proofs.PlainStaying.{edge_more, has_plain}
 use Rattle.ring_laws.specs.Ringed.{IsRinged}
 use Rattle.ring_laws.proofs.Known.{wedge_listed}
 use Rattle.ring_laws.proofs.RingsStaying.{rings_stay}
@@ -25,9 +24,6 @@ use Rattle.subdivision_laws.proofs.Covers.{Covers}
 use Rattle.subdivision_laws.proofs.AddedSteps.{added, Adds}
 use Rattle.subdivision_laws.proofs.AddedShells.{open_covers}
 use Rattle.subdivision_laws.proofs.RingAdded.{AddsRing, FacesBelow, two_parts, one_part}
-
-has_plain : (S : Drawing) → IsPlainInOrder S → HasPlain S
-has_plain S h = record { parts = parts_of S h.plain; ids = record { test = h.node_ids }; edge_ids = record { test = h.edge_ids } }
 
 -- the drawing with the edge, where it doesn't divide its face yet
 adds : (S : Drawing) (a b : NodeRow) (p q : Point) (vs : List Point) (f : ℕ) → IsCovered S → 2 ≤ length (p ∷ q ∷ vs) → EdgeMayCome S a b (p ∷ q ∷ vs) f → Adds S a b p q vs f

@@ -21,7 +21,7 @@ use Rattle.face_rings.proofs.HalfLines.{HasPlainLines, begins}
 use Rattle.face_rings.proofs.HalvesApart.{half_of, line_of}
 use Rattle.ring_laws.specs.Ringed.{IsRinged}
 use Rattle.ring_laws.proofs.HealedSides.{healed_with}
-use Rattle.subdivision_laws.proofs.Joint.{IsHealed, AreBoth, first_there, Joint, make_joint, edge_cases, joint_sides}
+use Rattle.ring_laws.proofs.Joint.{IsHealed, AreBoth, first_there, Joint, make_joint, edge_cases, joint_sides}
 use Rattle.ring_laws.proofs.Turning.{joined_of}
 use Rattle.parity_laws.specs.Rings.{In}
 use Rattle.face_laws.specs.Walked.{steps_along}

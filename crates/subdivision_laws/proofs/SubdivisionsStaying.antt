@@ -17,7 +17,6 @@ use Rattle.drawing.specs.Subdivision.{IsSubdivision}
 use Rattle.plane.proofs.ListTests.{contains_none}
 use Rattle.edit_changes.specs.Evidence.{IsDecided, is_within}
 use Rattle.edit_changes.proofs.Histories.{after_within, after_edits, in_histories}
-use Rattle.face_rings.proofs.FaceBorders.{has_plain_lines}
 use Rattle.ring_laws.specs.Ringed.{IsRinged}
 use Rattle.reference_laws.proofs.ReferencesStaying.{references_stay}
 use Rattle.face_laws.specs.Covered.{IsCovered}
@@ -25,7 +24,6 @@ use Rattle.face_laws.proofs.Covering.{covered_faced}
 use Rattle.face_laws.proofs.ShellsListed.{shells_listed}
 use Rattle.subdivision_laws.specs.Subdivided.{IsSubdivided, SubdivisionsStay}
 use Rattle.subdivision_laws.proofs.Covers.{Covers, covered, covers}
-use Rattle.subdivision_laws.proofs.EditedEdges.{both_new, one_changed, healed_anew, healed_changed}
 use Rattle.subdivision_laws.proofs.EdgesAdded.{edge_comes, face_is_divided, face_is_divided_anew}
 use Rattle.subdivision_laws.proofs.EdgesGone.{edge_goes, faces_join, faces_join_anew}
 use Rattle.subdivision_laws.proofs.HealsStay.{healed_covers}
@@ -33,6 +31,9 @@ use Rattle.subdivision_laws.proofs.LoneEdgeGone.{lone_edge_less}
 use Rattle.subdivision_laws.proofs.NodesStay.{node_more, node_elsewhere, node_less}
 use Rattle.subdivision_laws.proofs.RingAdded.{FacesBelow, faces_below, faces_in_order}
 use Rattle.subdivision_laws.proofs.SplitsStay.{split_covers}
+use Rattle.ring_laws.proofs.EdgesCut.{both_new, one_changed}
+use Rattle.ring_laws.proofs.EdgesJoin.{joined_anew, joined_changed}
+use Rattle.ring_laws.proofs.RingedDrawings.{before_of}
 
 -- ---- each change
 line_long : (line : List Point) → is_line_short line ≡ true → 2 ≤ length line
@@ -54,10 +55,10 @@ change_covers S (LoneEdgeGoes e) k w below h ringed = lone_edge_less S e k h rin
 change_covers S (EdgeGoes e) k w below h ringed = edge_goes S e k.0 k.1 h ringed
 change_covers S (FacesJoin e kept goes) k w below h ringed = faces_join S e kept goes k.0 k.1 k.2 h ringed
 change_covers S (FacesJoinAnew e) k w below h ringed = faces_join_anew S e k.0 k.1 k.2 below h ringed
-change_covers S (EdgeIsCut e p) k w below h ringed = split_covers S e p e.edge_id S.next_ids.edge _ _ _ h (one_changed S e p (has_plain_lines S h.ringed.rings) k) ringed
-change_covers S (EdgeIsCutAnew e p) k w below h ringed = split_covers S e p S.next_ids.edge (S.next_ids.edge + 1) _ _ _ h (both_new S e p k) ringed
-change_covers S (EdgesAreJoined e f n) k w below h ringed = healed_covers S n e f e.edge_id _ _ _ h (healed_changed S n e f (has_plain_lines S h.ringed.rings) k) ringed
-change_covers S (EdgesAreJoinedAnew e f n) k w below h ringed = healed_covers S n e f S.next_ids.edge _ _ _ h (healed_anew S n e f k) ringed
+change_covers S (EdgeIsCut e p) k w below h ringed = split_covers S e p e.edge_id S.next_ids.edge _ _ _ h (one_changed S e p k (before_of S h.ringed)) ringed
+change_covers S (EdgeIsCutAnew e p) k w below h ringed = split_covers S e p S.next_ids.edge (S.next_ids.edge + 1) _ _ _ h (both_new S e p k (before_of S h.ringed)) ringed
+change_covers S (EdgesAreJoined e f n) k w below h ringed = healed_covers S n e f e.edge_id _ _ _ h (joined_changed S n e f k (before_of S h.ringed)) ringed
+change_covers S (EdgesAreJoinedAnew e f n) k w below h ringed = healed_covers S n e f S.next_ids.edge _ _ _ h (joined_anew S n e f k) ringed
 change_covers S (LayerComes name kind child level) k w below h ringed = aside S _ S.features S.relations _ h
 change_covers S (FeatureComes layer xs) k w below h ringed = aside S S.layers _ _ _ h
 change_covers S (FeatureLists row) k w below h ringed = aside S S.layers S.features _ S.next_ids h
