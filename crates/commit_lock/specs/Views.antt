@@ -1,6 +1,6 @@
 -- The views of seats: what each token of the lock knows, as the table's rule reads it.
 use Rattle.std.specs.Prelude.{ℕ, ◌+◌, suc, zero, true, false, List, [], ◌∷◌, ◌++◌, max}
-use Rattle.std.proofs.Common.{lit<, lit≤}
+use lib.Dec.{lit<, lit≤}
 use Rattle.topo_base.specs.declared.edit.Entry.{Entry}
 use Rattle.commit_lock.specs.declared.view.Origin.{Origin}
 use Rattle.commit_lock.specs.declared.view.Line.{Line}

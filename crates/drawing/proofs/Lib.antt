@@ -1,5 +1,4 @@
 pub mod RowLemmas
-pub mod Keeping
 pub mod Ordering
 pub mod TableLemmas
 pub mod Members

@@ -25,7 +25,6 @@ use Rattle.face_rings.proofs.FaceBorders.{has_plain_lines}
 use Rattle.face_rings.proofs.HalfLines.{HasPlainLines}
 use Rattle.face_rings.proofs.HalvesApart.{one_edge}
 use Rattle.ring_laws.specs.Ringed.{IsRinged}
-use Rattle.ring_laws.proofs.HealedSides.{IsHealed}
 use Rattle.ring_laws.proofs.Known.{any_in}
 use Rattle.ring_laws.proofs.KnownStays.{end_is}
 use Rattle.ring_laws.proofs.RingsStaying.{rings_stay}
@@ -36,6 +35,7 @@ use Rattle.edge_heal.specs.NewHeal.{new_healed_edges}
 use Rattle.edge_heal.proofs.HealLinks.{IsHealOf, make_joint}
 use Rattle.edge_split.proofs.SplitAllowed.{EndsKnown, ends_known}
 use Rattle.edge_split.proofs.SplitEdges.{changed_there, unchanged_there}
+use Rattle.ring_laws.proofs.Joint.{IsHealed}
 
 -- the row of an edge is that of an edge of the drawing
 pub row_drawn : (S : Drawing) (r : EdgeRow) → Contains (tables_of S).edges r → Contains S.edges (drawn_edge r)

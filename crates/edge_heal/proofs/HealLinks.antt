@@ -21,12 +21,13 @@ use Rattle.face_rings.proofs.HalfLines.{HasPlainLines}
 use Rattle.face_rings.proofs.HalvesApart.{half_of, forward_there, backward_there, line_of, one_edge}
 use Rattle.face_rings.proofs.Ranks.{by_bool}
 use Rattle.ring_laws.proofs.Alike.{Alike, alike_same, near_alike}
-use Rattle.ring_laws.proofs.HealedSides.{IsHealed, healed_with}
+use Rattle.ring_laws.proofs.HealedSides.{healed_with}
 use Rattle.ring_laws.proofs.KnownStays.{end_is}
 use Rattle.ring_laws.proofs.SplitSides.{first_of_some, from_end, half_there}
 use Rattle.ring_laws.proofs.Turning.{AreSpread, Turns, next_turns, spread_of, turns_next, twin_twin}
 use Rattle.edge_heal.specs.Renamed.{healed_name}
 use Rattle.edge_split.proofs.SplitLinks.{like_one, turned_like}
+use Rattle.ring_laws.proofs.Joint.{IsHealed}
 
 -- ---- the directions of a joined line
 end_of_more : (xs m : List Point) → 2 ≤ length m → first_direction (reverse (xs ++ m)) ≡ first_direction (reverse m)

@@ -12,11 +12,11 @@ use Rattle.drawing.specs.Tables.{has_side}
 use Rattle.face_rings.proofs.HalfLines.{HasPlainLines}
 use Rattle.face_rings.proofs.HalvesApart.{half_of}
 use Rattle.face_rings.proofs.Ranks.{by_bool}
-use Rattle.ring_laws.proofs.HealedSides.{IsHealed}
 use Rattle.ring_laws.proofs.Turning.{left_stays, next_turns, twin_twin}
 use Rattle.ring_laws.proofs.WithoutEdge.{leaves_end}
 use Rattle.edge_heal.proofs.HealLinks.{AreBoth, Joint, away_ends, both_cases, edge_cases, first_there, id_of, make_joint, second_there}
 use Rattle.std.proofs.Common.{List}
+use Rattle.ring_laws.proofs.Joint.{IsHealed}
 
 -- those that leave the node
 at_node : (S : Drawing) (n : ℕ) (e f : Edge) (id : ℕ) (fs : List Edge) → HasPlainLines S → IsHealed S n e f id fs → (j : Joint S n e f id (joined_edge n e f id)) → (k : HalfEdge) → Contains (half_edges S) k → k.from_node ≡ n → (k ≡ twin j.up) ⊎ (k ≡ j.on)

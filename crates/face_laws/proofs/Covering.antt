@@ -19,7 +19,7 @@ use Rattle.parity_laws.specs.Rings.{of_face}
 use Rattle.parity_laws.proofs.Pointing.{one_face}
 use Rattle.parity_laws.proofs.Splitting.{world}
 use Rattle.face_laws.specs.Walked.{steps_of}
-use Rattle.face_laws.specs.Covered.{face_of, IsPlaced, IsCovered}
+use Rattle.face_laws.specs.Covered.{face_of, IsInFaceOf, IsCovered}
 use Rattle.face_laws.proofs.FaceOnLeft.{left_is}
 use Rattle.face_laws.proofs.FaceParity.{GivesFaces, in_face_is}
 use Rattle.face_laws.proofs.Facing.{HasSides, is_faced, step_listed}
@@ -50,10 +50,10 @@ sides_of S c =
     }
 
 -- ---- the face that a point is in
-in_face_of : (S : Drawing) (p : Point) (f : ℕ) → GivesFaces (face_of S) S.edges → IsPlaced S p f → (g : ℕ) → g ≢ 0 → is_in_face S g p ≡ eqb f g
+in_face_of : (S : Drawing) (p : Point) (f : ℕ) → GivesFaces (face_of S) S.edges → IsInFaceOf S p f → (g : ℕ) → g ≢ 0 → is_in_face S g p ≡ eqb f g
 in_face_of S p f gives placed g n = sym (in_face_is (face_of S) S g p gives) ∙ placed g n
 
-pub placed_at : (S : Drawing) (p : Point) (f : ℕ) → GivesFaces (face_of S) S.edges → IsTrue (has_face S f) → IsPlaced S p f → face_at S p ≡ f
+pub placed_at : (S : Drawing) (p : Point) (f : ℕ) → GivesFaces (face_of S) S.edges → IsTrue (has_face S f) → IsInFaceOf S p f → face_at S p ≡ f
 placed_at S p f gives face placed = by_faces S.faces f (in_face_of S p f gives placed) (λ n. face)
   where
     not_zero : (k : ℕ) → suc k ≢ 0
@@ -82,14 +82,14 @@ placed_at S p f gives face placed = by_faces S.faces f (in_face_of S p f gives p
         by_test false e rest = rest (λ n. behind (suc k) f fs (ne_eqb (suc k) f (λ i. both_ways (eqb f (suc k)) (sym e) (eq-eqb f (suc k) (sym i)))) (there n))
 
 -- each point is in the face that the definition finds
-pub point_placed : (S : Drawing) (p : Point) → HasSides S → IsPlaced S p (face_at S p)
+pub point_placed : (S : Drawing) (p : Point) → HasSides S → IsInFaceOf S p (face_at S p)
 point_placed S p h =
-    subst (IsPlaced S p) (sym (placed_at S p r.0 h.faces (listed r.0 r.1) r.1)) r.1
+    subst (IsInFaceOf S p) (sym (placed_at S p r.0 h.faces (listed r.0 r.1) r.1)) r.1
   where
-    r : (g : ℕ) × IsPlaced S p g
+    r : (g : ℕ) × IsInFaceOf S p g
     r = one_face (steps_of S) (face_of S) p h.drawn (λ f n. (world (steps_of S) (of_face (face_of S) f) h.drawn (h.ringwise f n)).rings.even) h.sided
 
-    listed : (g : ℕ) → IsPlaced S p g → IsTrue (has_face S g)
+    listed : (g : ℕ) → IsInFaceOf S p g → IsTrue (has_face S g)
     listed zero k = h.universe
     listed (suc g) k =
         let s = some_step (λ t. crosses t p) (of_face (face_of S) (suc g)) (steps_of S) (k (suc g) (λ e. omega (arith, e)) ∙ eq-eqb (suc g) (suc g) refl) in

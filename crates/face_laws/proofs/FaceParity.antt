@@ -19,19 +19,20 @@ use Rattle.parity_laws.specs.Steps.{odd, above, above_at}
 use Rattle.parity_laws.specs.Rings.{those, of_face}
 use Rattle.parity_laws.proofs.Sums.{odd_append, xor_comm, summing}
 use Rattle.face_laws.specs.Walked.{steps_of}
-use Rattle.face_laws.proofs.LineSteps.{turned, segments-reverse}
+use Rattle.face_laws.proofs.LineSteps.{segments-reverse}
+use Rattle.parity_laws.specs.Coming.{walked_back}
 
 -- ---- a line that is walked back
-odd_turned : (g : Segment → Bool) (X : List Segment) → odd g (turned X) ≡ odd (λ s. g (back s)) X
-odd_turned g [] = refl
-odd_turned g (s ∷ X) =
-    odd_append g (turned X) (back s ∷ []) ∙ ap (λ b. xor b (odd g (back s ∷ []))) (odd_turned g X) ∙ last (odd (λ t. g (back t)) X) (g (back s))
+odd_walked : (g : Segment → Bool) (X : List Segment) → odd g (walked_back X) ≡ odd (λ s. g (back s)) X
+odd_walked g [] = refl
+odd_walked g (s ∷ X) =
+    odd_append g (walked_back X) (back s ∷ []) ∙ ap (λ b. xor b (odd g (back s ∷ []))) (odd_walked g X) ∙ last (odd (λ t. g (back t)) X) (g (back s))
   where
     last : (x y : Bool) → xor x (xor y false) ≡ xor y x
     last x y = simp summing
 
 odd_reverse : (g : Segment → Bool) (l : List Point) → odd g (segments_of (reverse l)) ≡ odd (λ s. g (back s)) (segments_of l)
-odd_reverse g l = ap (odd g) (segments-reverse l) ∙ odd_turned g (segments_of l)
+odd_reverse g l = ap (odd g) (segments-reverse l) ∙ odd_walked g (segments_of l)
 
 -- ---- steps of one face
 pub those_same : (label : Segment → Bool) (b : Bool) (g : Segment → Bool) (X : List Segment) → ((s : Segment) → Contains X s → label s ≡ b) → odd g (those label X) ≡ cond b (odd g X) false

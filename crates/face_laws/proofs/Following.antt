@@ -1,7 +1,7 @@
 -- Each step is followed by one step, and what is one on half-edges that follow each other is one for each ring.
-use Rattle.std.proofs.Common.{◌≡◌, suc, ◌<◌, refl, sym, ◌∙◌, ap, arith, ◌⊎◌, inl, inr, ⊎_elim, Bool, true, false, not, cond, ◌&&◌, ◌||◌, List, [], ◌∷◌, length, get_or, ◌≤◌}
+use Rattle.std.proofs.Common.{◌≡◌, suc, ◌<◌, refl, sym, ◌∙◌, ap, arith, ◌⊎◌, inl, inr, ⊎_elim, Bool, List, [], ◌∷◌, length, get_or, ◌≤◌}
 use Rattle.std.specs.List.{Contains}
-use Rattle.std.proofs.lemmas.Bool.{cases_lt, false≢true}
+use Rattle.std.proofs.lemmas.Bool.{cases_lt}
 use Rattle.std.proofs.lemmas.Option.{slice_get_within, slice_get-get_or}
 use Rattle.topo_base.specs.Point.{Point}
 use Rattle.drawing.specs.Drawing.{Drawing}
@@ -9,39 +9,16 @@ use Rattle.drawing.specs.HalfEdge.{HalfEdge, half_edges}
 use Rattle.plane.specs.Line.{segments_of}
 use Rattle.plane.specs.Segment.{Segment}
 use Rattle.drawing.specs.Star.{next_of}
-use Rattle.plane.specs.Crossings.{back}
 use Rattle.face_rings.proofs.HalfLines.{HasPlainLines}
 use Rattle.face_rings.proofs.HalvesApart.{half_of, line_of}
 use Rattle.face_rings.proofs.NextApart.{next_there}
-use Rattle.parity_laws.specs.Steps.{direction, before}
-use Rattle.parity_laws.specs.Ways.{Apart, Outside}
-use Rattle.parity_laws.specs.Rings.{In, Next, Plain, Ringwise}
-use Rattle.parity_laws.proofs.Ringwise.{each_in}
-use Rattle.parity_laws.proofs.Star.{same_start}
-use Rattle.parity_laws.proofs.Tests.{one_first}
+use Rattle.parity_laws.specs.Rings.{In, Next, Ringwise}
 use Rattle.face_laws.specs.Walked.{steps_along, steps_of}
 use Rattle.face_laws.proofs.InnerTurns.{inner_next}
 use Rattle.face_laws.proofs.Lists.{place_in, in_place}
 use Rattle.face_laws.proofs.NextTurns.{half_next}
 use Rattle.face_laws.proofs.PlainSteps.{half_with, step_there, steps_plain}
-
--- ---- at most one step follows another
-pub next_one : (T : List Segment) (d n m : Segment) → Plain T → In n T → In m T → Next T d n → Next T d m → m ≡ n
-next_one T d n m plain i j h g =
-    ⊎_elim
-    (λ (e : m ≡ n). e)
-    (λ (apart : Apart (direction m) (direction n)).
-    absurd (clash (before (direction (back d)) (direction n)) (before (direction (back d)) (direction m)) (before (direction m) (direction n)) (before (direction n) (direction m)) (one_first (direction m) (direction n) apart)
-    ((each_in (Outside d (direction n)) T h.first m j).start g.meets) ((each_in (Outside d (direction m)) T g.first n i).start h.meets)))
-    (same_start T n m plain i j (g.meets ∙ sym h.meets))
-  where
-    clash : (a b c e : Bool) → c ≡ not e → cond a (b && c) (b || c) ≡ false → cond b (a && e) (a || e) ≡ false → ⊥
-    clash true true c true p q r = false≢true (sym r)
-    clash true true c false p q r = false≢true (sym q ∙ p)
-    clash true false c e p q r = false≢true (sym r)
-    clash false true c e p q r = false≢true (sym q)
-    clash false false c true p q r = false≢true (sym r)
-    clash false false c false p q r = false≢true (sym q ∙ p)
+use Rattle.parity_laws.proofs.Following.{next_same}
 
 -- ---- the step that follows
 pub has_segment : (l : List Point) → 2 ≤ length l → 0 < length (segments_of l)
@@ -103,7 +80,7 @@ pub labels_ringwise : (S : Drawing) (label : Segment → Bool) (mark : HalfEdge 
 labels_ringwise S label mark good labels d n i j next =
     let (h, (c, on)) = half_with S d i in
     let f = followed S h d good c on in
-    let same = next_one (steps_of S) d f.step n (steps_plain S good) (step_there S f.half f.step f.there f.on) j f.next next in
+    let same = sym (next_same (steps_of S) d f.step n (steps_plain S good) (step_there S f.half f.step f.there f.on) j f.next next) in
     labels.each h d c on
     ∙ ⊎_elim (λ (p : f.half ≡ h). ap mark (sym p)) (λ (p : f.half ≡ next_of (half_edges S) h). labels.next h c ∙ ap mark (sym p)) f.way
     ∙ sym (labels.each f.half f.step f.there f.on) ∙ ap label (sym same)

@@ -1,10 +1,9 @@
 -- At an inner vertex of a line the step after a step is the next one on the line.
-use Rattle.std.proofs.Common.{◌≡◌, ℕ, suc, sym, ◌∙◌, ap, subst, ◌⊎◌, inl, inr, ⊎_elim, Bool, true, false, cond, ◌&&◌, ◌||◌, List, slice_get, Some}
+use Rattle.std.proofs.Common.{◌≡◌, ℕ, suc, sym, ◌∙◌, ap, subst, ◌⊎◌, inl, inr, ⊎_elim, false, List, slice_get, Some}
 use Rattle.std.specs.List.{Contains}
 use Rattle.std.proofs.lemmas.Bool.{and_parts, cases_eq}
 use Rattle.topo_base.specs.Point.{Point}
 use Rattle.topo_base.specs.RationalPoint.{rational, IsAt}
-use Rattle.plane.specs.Direction.{Direction}
 use Rattle.drawing.specs.Drawing.{Drawing, is_end_of}
 use Rattle.drawing.specs.HalfEdge.{HalfEdge, forward_of, backward_of, half_edges, twin}
 use Rattle.plane.specs.Line.{segments_of, first_vertex, last_vertex}
@@ -18,11 +17,10 @@ use Rattle.drawing.proofs.PlainSplits.{one_point}
 use Rattle.face_rings.proofs.HalfLines.{HasPlainLines}
 use Rattle.face_rings.proofs.HalvesApart.{IsHalf, half_of, line_of, one_edge}
 use Rattle.ring_laws.proofs.Turning.{twin_twin}
-use Rattle.parity_laws.specs.Steps.{direction, before}
+use Rattle.parity_laws.specs.Steps.{direction}
 use Rattle.parity_laws.specs.Ways.{inside, Outside}
 use Rattle.parity_laws.specs.Rings.{In, Next}
 use Rattle.parity_laws.proofs.Across.{start_on, end_on}
-use Rattle.parity_laws.proofs.Gap.{before_self}
 use Rattle.parity_laws.proofs.Ringwise.{in_each}
 use Rattle.face_laws.specs.Walked.{steps_along, steps_of}
 use Rattle.face_laws.proofs.Lists.{place_in, in_contains, in_place}
@@ -30,21 +28,8 @@ use Rattle.face_laws.proofs.LineSteps.{proper_at, from_reverse}
 use Rattle.face_laws.proofs.PlainSteps.{half_with, steps_plain}
 use Rattle.face_laws.proofs.Tying.{one_end}
 use Rattle.face_laws.proofs.Vertices.{IsWellMade, Follows, follows_meet, between_only, between_no_end}
-
--- ---- the ends of a wedge are not inside
-pub first_outside : (u w : Direction) → inside u w u ≡ false
-first_outside u w = by_tests (before u w) (before u u) (before_self u)
-  where
-    by_tests : (a b : Bool) → b ≡ false → cond a (b && a) (b || a) ≡ false
-    by_tests true b e = rw e
-    by_tests false b e = rw e
-
-pub last_outside : (u w : Direction) → inside u w w ≡ false
-last_outside u w = by_tests (before u w) (before w w) (before_self w)
-  where
-    by_tests : (a b : Bool) → b ≡ false → cond a (a && b) (a || b) ≡ false
-    by_tests true b e = e
-    by_tests false b e = e
+use Rattle.parity_laws.proofs.Nearby.{inside_start}
+use Rattle.parity_laws.proofs.Following.{inside_end}
 
 -- where each step goes both ways it is enough to look at those that begin there
 pub next_by_starts : (T : List Segment) (d n : Segment) → ((s : Segment) → In s T → In (back s) T) → n.a ≡ d.b →
@@ -135,6 +120,6 @@ inner_next S h k s t at =
     next_by_starts (steps_of S) s t (λ r i. (steps_plain S at.good).both r i) (follows_meet h.points k s t at.two) (λ r i e.
     let (m, (c, j)) = half_with S r i in
     ⊎_elim
-    (λ (p : r ≡ t). subst (λ z. inside (direction (back s)) (direction t) (direction z) ≡ false) (sym p) (last_outside (direction (back s)) (direction t)))
-    (λ (p : r ≡ back s). subst (λ z. inside (direction (back s)) (direction t) (direction z) ≡ false) (sym p) (first_outside (direction (back s)) (direction t)))
+    (λ (p : r ≡ t). subst (λ z. inside (direction (back s)) (direction t) (direction z) ≡ false) (sym p) (inside_end (direction (back s)) (direction t)))
+    (λ (p : r ≡ back s). subst (λ z. inside (direction (back s)) (direction t) (direction z) ≡ false) (sym p) (inside_start (direction (back s)) (direction t)))
     (inner_starts S h m k s t r at c j e))

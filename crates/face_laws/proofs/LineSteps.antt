@@ -26,8 +26,10 @@ use Rattle.plane.proofs.SegmentParts.{start_on, end_on}
 use Rattle.plane.proofs.SimpleTests.{before_it, first_begins}
 use Rattle.face_rings.proofs.Inside.{IsInside, inside_both}
 use Rattle.parity_laws.specs.Rings.{In, Once}
-use Rattle.face_laws.proofs.Lists.{once_placed, in_front, in_behind}
+use Rattle.face_laws.proofs.Lists.{once_placed}
 use Rattle.face_laws.proofs.Tying.{MeetAtEnds}
+use Rattle.parity_laws.specs.Coming.{walked_back}
+use Rattle.parity_laws.proofs.OnLine.{in_walked}
 
 -- ---- proper segments
 pub proper_at : (l : List Point) (k : ℕ) (s : Segment) → list_all is_proper (segments_of l) ≡ true → slice_get (segments_of l) k ≡ Some s → s.a ≢ s.b
@@ -120,9 +122,6 @@ at_line_end l k s q simple e on ends =
         (cases_eq k m)
 
 -- ---- a line walked back
-abbrev pub turned : List Segment → List Segment
-turned [] = []
-turned (s ∷ ss) = turned ss ++ back s ∷ []
 
 reverse_is : (a : Point) (l : List Point) → reverse (a ∷ l) ≡ reverse l ++ a ∷ []
 reverse_is a l = reverse_onto l a []
@@ -132,23 +131,15 @@ segments-push [] z a = refl
 segments-push (x ∷ []) z a = refl
 segments-push (x ∷ y ∷ l) z a = ap (λ ss. record { a = x; b = y } ∷ ss) (segments-push (y ∷ l) z a)
 
-pub segments-reverse : (l : List Point) → segments_of (reverse l) ≡ turned (segments_of l)
+pub segments-reverse : (l : List Point) → segments_of (reverse l) ≡ walked_back (segments_of l)
 segments-reverse [] = refl
 segments-reverse (a ∷ []) = refl
 segments-reverse (a ∷ b ∷ l) =
     ap segments_of (reverse_is a (b ∷ l) ∙ ap (λ r. r ++ a ∷ []) (reverse_is b l)) ∙ segments-push (reverse l) b a
     ∙ ap (λ ss. ss ++ record { a = b; b = a } ∷ []) (ap segments_of (sym (reverse_is b l)) ∙ segments-reverse (b ∷ l))
 
-in_turned : (s : Segment) (ss : List Segment) → In s ss → In (back s) (turned ss)
-in_turned s [] i = absurd i
-in_turned s (t ∷ ss) i =
-    ⊎_elim
-    (λ (e : s ≡ t). in_behind (back s) (turned ss) (back t ∷ []) (inl (ap back e)))
-    (λ (j : In s ss). in_front (back s) (turned ss) (back t ∷ []) (in_turned s ss j))
-    i
-
 pub in_reverse : (s : Segment) (l : List Point) → In s (segments_of l) → In (back s) (segments_of (reverse l))
-in_reverse s l i = subst (In (back s)) (sym (segments-reverse l)) (in_turned s (segments_of l) i)
+in_reverse s l i = subst (In (back s)) (sym (segments-reverse l)) (in_walked s (segments_of l) i)
 
 pub from_reverse : (s : Segment) (l : List Point) → In s (segments_of (reverse l)) → In (back s) (segments_of l)
 from_reverse s l i = subst (λ r. In (back s) (segments_of r)) (reverse-reverse l) (in_reverse s (reverse l) i)

@@ -1,5 +1,5 @@
 -- Steps in lists, said by In and by Contains, and lists without repeats.
-use Rattle.std.proofs.Common.{◌≡◌, ℕ, suc, refl, sym, subst, arith, ◌⊎◌, inl, inr, ⊎_elim, List, [], ◌∷◌, ◌++◌, slice_get, Some}
+use Rattle.std.proofs.Common.{◌≡◌, ℕ, suc, refl, sym, subst, arith, inl, inr, ⊎_elim, List, [], ◌∷◌, slice_get, Some}
 use Rattle.std.specs.Prelude.{flat_map}
 use Rattle.std.specs.List.{Contains}
 use Rattle.plane.specs.Segment.{Segment}
@@ -7,6 +7,7 @@ use Rattle.plane.proofs.ListTests.{contains_here, contains_there, contains_cases
 use Rattle.plane.proofs.LineCuts.{place_of, at_place}
 use Rattle.drawing.proofs.Members.{Pairwise}
 use Rattle.parity_laws.specs.Rings.{In, Once}
+use Rattle.parity_laws.proofs.Lists.{in_left, in_right, in_cases, once_append}
 
 -- ---- membership
 pub in_contains : (s : Segment) (T : List Segment) → In s T → Contains T s
@@ -23,29 +24,13 @@ place_in s T i = place_of s T (in_contains s T i)
 pub in_place : (s : Segment) (T : List Segment) (i : ℕ) → slice_get T i ≡ Some s → In s T
 in_place s T i e = contains_in s T (at_place s T i e)
 
-pub in_front : (s : Segment) (X Y : List Segment) → In s X → In s (X ++ Y)
-in_front s [] Y i = absurd i
-in_front s (t ∷ X) Y i = ⊎_elim (λ (e : s ≡ t). inl e) (λ (j : In s X). inr (in_front s X Y j)) i
-
-pub in_behind : (s : Segment) (X Y : List Segment) → In s Y → In s (X ++ Y)
-in_behind s [] Y i = i
-in_behind s (t ∷ X) Y i = inr (in_behind s X Y i)
-
-pub in_either : (s : Segment) (X Y : List Segment) → In s (X ++ Y) → In s X ⊎ In s Y
-in_either s [] Y i = inr i
-in_either s (t ∷ X) Y i =
-    ⊎_elim
-    (λ (e : s ≡ t). inl (inl e))
-    (λ (j : In s (X ++ Y)). ⊎_elim (λ (k : In s X). inl (inr k)) (λ (k : In s Y). inr k) (in_either s X Y j))
-    i
-
 -- ---- lists joined out of others
 pub in_joined : {A : Type 0} (f : A → List Segment) (xs : List A) (x : A) (s : Segment) → Contains xs x → In s (f x) → In s (flat_map f xs)
 in_joined f [] x s c i = absurd (contains_none x c)
 in_joined f (y ∷ xs) x s c i =
     ⊎_elim
-    (λ (e : y ≡ x). in_front s (f y) (flat_map f xs) (subst (λ z. In s (f z)) (sym e) i))
-    (λ (d : Contains xs x). in_behind s (f y) (flat_map f xs) (in_joined f xs x s d i))
+    (λ (e : y ≡ x). in_left s (f y) (flat_map f xs) (subst (λ z. In s (f z)) (sym e) i))
+    (λ (d : Contains xs x). in_right s (f y) (flat_map f xs) (in_joined f xs x s d i))
     (contains_cases x y xs c)
 
 pub from_joined : {A : Type 0} (f : A → List Segment) (xs : List A) (s : Segment) → In s (flat_map f xs) → (x : A) × (Contains xs x × In s (f x))
@@ -54,7 +39,7 @@ from_joined f (y ∷ xs) s i =
     ⊎_elim
     (λ (j : In s (f y)). (y, (contains_here y xs, j)))
     (λ (j : In s (flat_map f xs)). let (x, (c, k)) = from_joined f xs s j in (x, (contains_there x y xs c, k)))
-    (in_either s (f y) (flat_map f xs) i)
+    (in_cases s (f y) (flat_map f xs) i)
 
 -- ---- no repeats
 pub once_placed : (T : List Segment) → ((i j : ℕ) (s : Segment) → slice_get T i ≡ Some s → slice_get T j ≡ Some s → i ≡ j) → Once T
@@ -62,13 +47,6 @@ once_placed [] one = tt
 once_placed (t ∷ T) one = (
   λ i. let p = place_in t T i in let e = one 0 (suc p.0) t refl p.1 in omega arith,
   once_placed T (λ i j s e f. let g = one (suc i) (suc j) s e f in omega arith),
-)
-
-once_append : (X Y : List Segment) → Once X → Once Y → ((s : Segment) → In s X → In s Y → ⊥) → Once (X ++ Y)
-once_append [] Y hx hy far = hy
-once_append (t ∷ X) Y hx hy far = (
-  λ i. ⊎_elim (λ (j : In t X). hx.0 j) (λ (j : In t Y). far t (inl refl) j) (in_either t X Y i),
-  once_append X Y hx.1 hy (λ s i j. far s (inr i) j),
 )
 
 pub once_joined : {A : Type 0} (f : A → List Segment) (xs : List A) → Pairwise (λ x y. x ≡ y → ⊥) xs → ((x : A) → Contains xs x → Once (f x)) →

@@ -8,7 +8,7 @@ use Rattle.plane.proofs.Directions.{quarter_by, to_right, to_left, behind, in_fr
 use Rattle.plane.proofs.Ring.{multiplied, signed}
 use Rattle.plane.proofs.Signs.{order, mul_positive, times_one}
 use Rattle.parity_laws.specs.Steps.{rightward, first_of, before}
-use Rattle.parity_laws.proofs.Tests.{lt_yes, lt_no}
+use Rattle.plane.proofs.Tests.{lt_yes, lt_no}
 
 -- left and right changed
 abbrev pub mirrored : Direction → Direction

@@ -27,10 +27,11 @@ use Rattle.parity_laws.specs.Rings.{In, Next}
 use Rattle.parity_laws.proofs.Across.{start_on}
 use Rattle.face_laws.specs.Walked.{steps_along, steps_of}
 use Rattle.face_laws.proofs.Lists.{place_in, in_contains}
-use Rattle.face_laws.proofs.InnerTurns.{first_outside, next_by_starts, well_made}
+use Rattle.face_laws.proofs.InnerTurns.{next_by_starts, well_made}
 use Rattle.face_laws.proofs.InsideNearer.{inside_nearer}
 use Rattle.face_laws.proofs.PlainSteps.{half_with, steps_plain}
 use Rattle.face_laws.proofs.Vertices.{begins_at_end, first_way, last_way}
+use Rattle.parity_laws.proofs.Nearby.{inside_start}
 
 -- d is the last step of h
 pub record IsLastOf (h : HalfEdge) (d : Segment) : Type 0 where
@@ -76,7 +77,7 @@ none_inside : (S : Drawing) (h x : HalfEdge) → HasPlainLines S → Contains (h
     inside (leaving (twin h)) (leaving (next_of (half_edges S) h)) (leaving x) ≡ false
 none_inside S h x good ch cx from =
     ⊎_elim
-    (λ (p : x ≡ twin h). subst (λ (y : HalfEdge). inside (leaving (twin h)) (leaving (next_of (half_edges S) h)) (leaving y) ≡ false) (sym p) (first_outside (leaving (twin h)) (leaving (next_of (half_edges S) h))))
+    (λ (p : x ≡ twin h). subst (λ (y : HalfEdge). inside (leaving (twin h)) (leaving (next_of (half_edges S) h)) (leaving y) ≡ false) (sym p) (inside_start (leaving (twin h)) (leaving (next_of (half_edges S) h))))
     (λ (other : x ≡ twin h → ⊥).
     false_from_ne_true (inside (leaving (twin h)) (leaving (next_of (half_edges S) h)) (leaving x)) (λ e.
     both_ways (is_nearer (leaving (twin h)) (leaving x) (leaving (next_of (half_edges S) h))) (turns.none_between x cx from other)

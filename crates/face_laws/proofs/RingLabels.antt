@@ -109,7 +109,7 @@ own_steps S h s i = has_one (ring_of (half_edges S) h) s h (in_own_ring S h) i
 abbrev pub first_step : HalfEdge → Segment
 first_step h = get_or (segments_of h.points) 0 (record { a = no_point; b = no_point })
 
-first_there : (S : Drawing) (h : HalfEdge) → HasPlainLines S → Contains (half_edges S) h → slice_get (segments_of h.points) 0 ≡ Some (first_step h)
+pub first_there : (S : Drawing) (h : HalfEdge) → HasPlainLines S → Contains (half_edges S) h → slice_get (segments_of h.points) 0 ≡ Some (first_step h)
 first_there S h good c = slice_get-get_or (segments_of h.points) 0 (record { a = no_point; b = no_point }) (has_steps S h good c)
 
 along_half : (S : Drawing) (label : Segment → Bool) (h : HalfEdge) (k : ℕ) (s : Segment) → HasPlainLines S → Ringwise (steps_of S) label → Contains (half_edges S) h →

@@ -1,5 +1,5 @@
 -- What sees the inside of a segment from its left.
-use Rattle.std.proofs.Common.{◌≡◌, ◌≢◌, sym, ◌∙◌, ap, arith, ℤ, pos, ◌-ℤ◌, ◌*ℤ◌, ◌<ℤ◌, ◌≤ℤ◌, ◌⊎◌, inl, inr, ⊎_elim}
+use Rattle.std.proofs.Common.{◌≡◌, sym, ◌∙◌, ap, arith, ℤ, pos, ◌-ℤ◌, ◌*ℤ◌, ◌<ℤ◌, ◌≤ℤ◌, ◌⊎◌, inl, inr, ⊎_elim}
 use Rattle.std.specs.Prelude.{neg_ℤ, reverse}
 use Rattle.std.specs.List.{Contains}
 use Rattle.std.proofs.Math.IntN.{zero-*ℤ}
@@ -26,6 +26,7 @@ use Rattle.parity_laws.proofs.Ringwise.{each_in}
 use Rattle.face_laws.specs.Walked.{steps_of}
 use Rattle.face_laws.proofs.StepsOf.{IsOfEdge, step_edge}
 use Rattle.face_laws.proofs.Lists.{in_contains}
+use Rattle.plane.proofs.Middle.{same_or_not}
 
 -- ---- the way in the larger plane is the way, from either end
 way_times : (x y p r q s d e k : ℤ) →
@@ -85,23 +86,6 @@ own_way q m = record {
 -- ---- rational points
 is_at : (p : Point) (m : RationalPoint) → SamePoint m (rational p) → IsAt p m
 is_at p m h = (sym (times_one m.x) ∙ h.0, sym (times_one m.y) ∙ h.1)
-
-decide_same : (p q : RationalPoint) → SamePoint p q ⊎ (SamePoint p q → ⊥)
-decide_same p q = by_first (equal_or (p.x *ℤ q.d) (q.x *ℤ p.d)) (equal_or (p.y *ℤ q.d) (q.y *ℤ p.d))
-  where
-    equal_or : (x y : ℤ) → (x ≡ y) ⊎ (x ≢ y)
-    equal_or x y =
-        ⊎_elim
-        (λ (h : x <ℤ y). inr (λ e. omega (arith, signed)))
-        (λ (h : y ≤ℤ x). ⊎_elim (λ (g : y <ℤ x). inr (λ e. omega (arith, signed))) (λ (g : x ≤ℤ y). inl (omega (arith, signed))) (order y x))
-        (order x y)
-
-    by_first : (p.x *ℤ q.d ≡ q.x *ℤ p.d) ⊎ (p.x *ℤ q.d ≢ q.x *ℤ p.d) → (p.y *ℤ q.d ≡ q.y *ℤ p.d) ⊎ (p.y *ℤ q.d ≢ q.y *ℤ p.d) → SamePoint p q ⊎ (SamePoint p q → ⊥)
-    by_first a b =
-        ⊎_elim
-        (λ (e : p.x *ℤ q.d ≡ q.x *ℤ p.d). ⊎_elim (λ (f : p.y *ℤ q.d ≡ q.y *ℤ p.d). inl (e, f)) (λ (f : p.y *ℤ q.d ≢ q.y *ℤ p.d). inr (λ (h : SamePoint p q). f h.1)) b)
-        (λ (e : p.x *ℤ q.d ≢ q.x *ℤ p.d). inr (λ (h : SamePoint p q). e h.0))
-        a
 
 -- a point strictly left of a segment is none on it
 left_is_off : (s : Segment) (q m : RationalPoint) → IsLeftOf q s → IsOn m s → SamePoint q m → ⊥
@@ -163,7 +147,7 @@ sees_left S d m q plain i inside left sees = record {
   not_start = λ h. inside.not_first (is_at d.a m h);
   not_end = λ h. inside.not_last (is_at d.b m h);
   alone = λ t j on. alone_on S d t m plain i j inside on;
-  sees = λ t j r on way. ⊎_elim (λ (same : SamePoint r m). same) (λ (not : SamePoint r m → ⊥). absurd (off t r j on (back_on_way m q r way) not)) (decide_same r m);
+  sees = λ t j r on way. ⊎_elim (λ (same : SamePoint r m). same) (λ (not : SamePoint r m → ⊥). absurd (off t r j on (back_on_way m q r way) not)) (same_or_not r m);
   off = λ t j on. off t q j on (own_way q m) (left_is_off d q m left inside.on);
   is_left = left;
 }

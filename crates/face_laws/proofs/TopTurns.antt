@@ -17,14 +17,14 @@ use Rattle.parity_laws.specs.Ways.{Apart, Outside}
 use Rattle.parity_laws.specs.Rings.{In, Next, Plain, Turns, IsRing, those, First}
 use Rattle.parity_laws.proofs.Climbing.{first_at}
 use Rattle.parity_laws.proofs.Following.{follows}
-use Rattle.parity_laws.proofs.Lists.{in_left, in_right}
+use Rattle.parity_laws.proofs.Lists.{in_left, in_right, in_cases}
 use Rattle.parity_laws.proofs.Ringwise.{each_in, in_each}
 use Rattle.parity_laws.proofs.Shells.{World, shell_law}
 use Rattle.parity_laws.proofs.Star.{same_start, those_in}
-use Rattle.parity_laws.proofs.Tests.{bool_same, same_self, same_is, yes_lt, no_lt}
+use Rattle.parity_laws.proofs.Tests.{bool_same, same_self, same_is}
 use Rattle.face_laws.proofs.LineSteps.{not_zero}
-use Rattle.face_laws.proofs.Lists.{in_either}
 use Rattle.face_laws.proofs.UpWedges.{IsLow, up_in_wedge}
+use Rattle.plane.proofs.Tests.{yes_lt, no_lt}
 
 -- ---- the top vertex of a list of steps
 higher_up : (p q : Point) → is_higher p q ≡ true → q.y ≤ℤ p.y
@@ -238,4 +238,4 @@ hole_left T p (d ∷ X) h = (
     from e = h.mine n.0 (turned (some_below T (top_of (d ∷ X)) n.0 d X d first h.ring below (below d (inl refl)) e))
       where
         turned : In n.0 (X ++ d ∷ []) → In n.0 (d ∷ X)
-        turned i = ⊎_elim (λ (j : In n.0 X). inr j) (λ (k : In n.0 (d ∷ [])). ⊎_elim (λ (f : n.0 ≡ d). inl f) (λ (f : ⊥). absurd f) k) (in_either n.0 X (d ∷ []) i)
+        turned i = ⊎_elim (λ (j : In n.0 X). inr j) (λ (k : In n.0 (d ∷ [])). ⊎_elim (λ (f : n.0 ≡ d). inl f) (λ (f : ⊥). absurd f) k) (in_cases n.0 X (d ∷ []) i)

@@ -18,8 +18,9 @@ use Rattle.plane.proofs.ListTests.{some_same}
 use Rattle.plane.proofs.SimpleTests.{before_it, first_begins, no_element}
 use Rattle.parity_laws.specs.Steps.{direction}
 use Rattle.parity_laws.proofs.Across.{start_on, end_on}
-use Rattle.face_laws.proofs.LineSteps.{proper_at, segments-reverse, turned}
+use Rattle.face_laws.proofs.LineSteps.{proper_at, segments-reverse}
 use Rattle.face_laws.proofs.Tying.{one_end}
+use Rattle.parity_laws.specs.Coming.{walked_back}
 
 -- a line that is simple and proper
 pub record IsWellMade (l : List Point) : Type 0 where
@@ -35,9 +36,6 @@ pub follows_meet : (l : List Point) (k : ℕ) (s t : Segment) → Follows l k s 
 follows_meet l k s t h =
     let b = before_it l k t h.second in
     sym (ap (λ (r : Segment). r.b) (some_same s b.0 (sym h.first ∙ b.1.0)) ∙ b.1.1)
-
-at_same : (p r : Point) → p ≡ r → IsAt p (rational r)
-at_same p r e = subst (λ (z : Point). IsAt z (rational r)) (sym e) (at_point r)
 
 is_same : (p r : Point) → IsAt p (rational r) → p ≡ r
 is_same p r h = one_end (rational r) p r h (at_point r)
@@ -160,11 +158,11 @@ first_way [] n e = absurd (no_element n e)
 first_way (a ∷ []) n e = absurd (no_element n e)
 first_way (a ∷ b ∷ l) n e = ap direction (sym (some_same (record { a = a; b = b }) n e))
 
-turned_last : (ss : List Segment) (k : ℕ) (d : Segment) → slice_get ss k ≡ Some d → k + 1 ≡ length ss → slice_get (turned ss) 0 ≡ Some (back d)
-turned_last [] k d e last = absurd (no_element d e)
-turned_last (s ∷ []) zero d e last = ap (λ (r : Segment). Some (back r)) (some_same s d e)
-turned_last (s ∷ t ∷ ss) zero d e last = absurd (omega arith)
-turned_last (s ∷ ss) (suc k) d e last = place_front (turned ss) (back s ∷ []) 0 (back d) (turned_last ss k d e (omega (arith, last)))
+walked_last : (ss : List Segment) (k : ℕ) (d : Segment) → slice_get ss k ≡ Some d → k + 1 ≡ length ss → slice_get (walked_back ss) 0 ≡ Some (back d)
+walked_last [] k d e last = absurd (no_element d e)
+walked_last (s ∷ []) zero d e last = ap (λ (r : Segment). Some (back r)) (some_same s d e)
+walked_last (s ∷ t ∷ ss) zero d e last = absurd (omega arith)
+walked_last (s ∷ ss) (suc k) d e last = place_front (walked_back ss) (back s ∷ []) 0 (back d) (walked_last ss k d e (omega (arith, last)))
 
 pub last_way : (l : List Point) (k : ℕ) (d : Segment) → slice_get (segments_of l) k ≡ Some d → k + 1 ≡ length (segments_of l) → direction (back d) ≡ first_direction (reverse l)
-last_way l k d e last = first_way (reverse l) (back d) (ap (λ ss. slice_get ss 0) (segments-reverse l) ∙ turned_last (segments_of l) k d e last)
+last_way l k d e last = first_way (reverse l) (back d) (ap (λ ss. slice_get ss 0) (segments-reverse l) ∙ walked_last (segments_of l) k d e last)

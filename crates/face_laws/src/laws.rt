@@ -15,7 +15,7 @@ ghost use Rattle.face_rings.specs.FaceBorder.{HasRings};
 ghost use Rattle.parity_laws.specs.Rings.{In, those, Drawn, OneRing, Ringwise};
 ghost use Rattle.parity_laws.specs.Steps.{above, left};
 ghost use Rattle.face_laws.specs.Walked.{steps_along, steps_of, is_of};
-ghost use Rattle.face_laws.specs.Covered.{face_of, IsPlaced, IsCovered};
+ghost use Rattle.face_laws.specs.Covered.{face_of, IsInFaceOf, IsCovered};
 
 /// The steps of a plain drawing whose rings have one face each are a plain list, each once; each step has on
 /// its left the face of its half-edge, and the steps of a ring of half-edges are one ring of steps.
@@ -31,7 +31,7 @@ pub fn steps_law()
 /// the face that the definition finds for it.
 pub fn faced_law()
     ensures faced { (S : Drawing) → IsCovered S → IsFaced S }
-    ensures placed { (S : Drawing) (p : Point) → IsCovered S → IsPlaced S p (face_at S p) }
+    ensures placed { (S : Drawing) (p : Point) → IsCovered S → IsInFaceOf S p (face_at S p) }
 {}
 
 /// The definition's test of shells, by the wedge at a ring's top vertex, is the parity of the ring on its own

@@ -20,8 +20,9 @@ use Rattle.plane.specs.Direction.{Direction}
 use Rattle.parity_laws.specs.Steps.{direction, before, leaves_before, twin, odd, Each, Even, above, turned, times, left}
 use Rattle.parity_laws.specs.Ways.{Onward, Apart, Fork, Meets, Tied}
 use Rattle.parity_laws.proofs.Sums.{xor_none, xor_comm, xor_self, odd_both, odd_each, each_map, equal, summing}
-use Rattle.parity_laws.proofs.Tests.{lt_yes, same_not, and_comm, yes_lt}
+use Rattle.parity_laws.proofs.Tests.{same_not, and_comm}
 use Rattle.parity_laws.proofs.Gap.{seg, passed_to, gap, Gap, leaves_none, twin_no, twin_gap, start_gap, end_gap}
+use Rattle.plane.proofs.Tests.{lt_yes, yes_lt}
 
 -- ---- a step that is clear of s
 any_edge : (s t : Segment) → AreApart s t → t.a.x <ℤ t.b.x → xor (crosses s t.a) (crosses s t.b) ≡ xor (passed t s.a) (passed t s.b)

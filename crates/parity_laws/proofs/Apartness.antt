@@ -16,8 +16,9 @@ use Rattle.plane.specs.Orientation.{area}
 use Rattle.plane.specs.Direction.{Direction, direction_to, cross}
 use Rattle.parity_laws.specs.Steps.{direction, rightward}
 use Rattle.parity_laws.specs.Ways.{Apart, Fork}
-use Rattle.parity_laws.proofs.Tests.{area_turned, crossed_turned, yes_lt, no_lt, zero_neg, area_back}
+use Rattle.parity_laws.proofs.Tests.{area_turned, crossed_turned, zero_neg, area_back}
 use Rattle.parity_laws.proofs.Across.{end_on}
+use Rattle.plane.proofs.Tests.{yes_lt, no_lt}
 
 -- two directions that are not apart: one half, and parallel
 pub record Alike (u w : Direction) : Type 0 where

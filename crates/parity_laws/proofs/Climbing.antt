@@ -9,11 +9,12 @@ use Rattle.topo_base.specs.Point.{same_point}
 use Rattle.parity_laws.specs.Steps.{Even, direction, before, above, left}
 use Rattle.parity_laws.specs.Rings.{In, Within, those, First, View}
 use Rattle.parity_laws.proofs.Sums.{equal}
-use Rattle.parity_laws.proofs.Tests.{same_self, same_is, lt_self, lt_yes, yes_lt}
+use Rattle.parity_laws.proofs.Tests.{same_self, same_is}
 use Rattle.parity_laws.proofs.Gap.{before_self}
 use Rattle.parity_laws.proofs.Clockwise.{before_onward}
 use Rattle.parity_laws.proofs.Star.{Least, least, those_within}
 use Rattle.parity_laws.proofs.Shells.{World, inside_out, io_star, first_left}
+use Rattle.plane.proofs.Tests.{lt_self, lt_yes, yes_lt}
 
 abbrev pub higher : Segment → Segment → Bool
 higher s t = int_lt t.a.y s.a.y

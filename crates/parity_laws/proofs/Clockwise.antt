@@ -7,7 +7,8 @@ use Rattle.plane.proofs.Signs.{order}
 use Rattle.plane.specs.Direction.{Direction, cross}
 use Rattle.parity_laws.specs.Steps.{rightward, first_of, before}
 use Rattle.parity_laws.proofs.HalfTurns.{Upper, crossed_onward}
-use Rattle.parity_laws.proofs.Tests.{lt_yes, yes_lt, no_lt, crossed_turned}
+use Rattle.parity_laws.proofs.Tests.{crossed_turned}
+use Rattle.plane.proofs.Tests.{lt_yes, yes_lt, no_lt}
 
 -- a quarter turn either way
 abbrev pub turned_left : Direction → Direction

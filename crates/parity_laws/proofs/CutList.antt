@@ -1,5 +1,5 @@
 -- A list with the steps of a cut list is this list in another order: it has the same sides, rings and shells.
-use Rattle.std.proofs.Common.{◌≡◌, ℕ, refl, sym, ◌∙◌, ap, subst, inl, inr, ⊎_elim, Bool, true, false, cond, List, [], ◌∷◌, ◌++◌}
+use Rattle.std.proofs.Common.{◌≡◌, ℕ, refl, sym, ◌∙◌, ap, subst, inl, inr, ⊎_elim, Bool, true, false, cond, List, [], ◌∷◌}
 use Rattle.topo_base.specs.Point.{Point}
 use Rattle.plane.specs.Segment.{Segment}
 use Rattle.plane.specs.Crossings.{back}
@@ -7,24 +7,17 @@ use Rattle.parity_laws.specs.Steps.{Each, above}
 use Rattle.parity_laws.specs.Ways.{Tied}
 use Rattle.parity_laws.specs.Cuts.{Inner, first_part, last_part, parts, cut}
 use Rattle.parity_laws.specs.Rings.{In, Within, Plain, Once, Ringwise, Sided, those}
+use Rattle.parity_laws.proofs.Lists.{once_append}
 use Rattle.parity_laws.proofs.Ringwise.{each_in, in_each}
-use Rattle.parity_laws.specs.Shelling.{IsShellOf, OneShell, NoShell}
-use Rattle.parity_laws.proofs.Rearranging.{Rearranged, same_above, same_sided, same_ringwise, same_one_shell, same_no_shell}
+use Rattle.parity_laws.specs.Shelling.{OneShell, NoShell}
+use Rattle.parity_laws.proofs.Rearranging.{Rearranged, same_above, same_sided, same_one_shell, same_no_shell}
 use Rattle.parity_laws.proofs.RearrangedOf.{rearranged_of}
-use Rattle.parity_laws.proofs.Labels.{those_same}
+use Rattle.parity_laws.proofs.Labels.{one_shell_faces, no_shell_faces, those_same, sided_same}
 use Rattle.parity_laws.proofs.Whole.{IsCut, exact, whole, each_part, part_is, whole_begin, whole_end}
-use Rattle.parity_laws.proofs.CutNext.{ringwise_cut}
-use Rattle.parity_laws.proofs.CutSides.{label_above, sided_same, sided_cut}
+use Rattle.parity_laws.proofs.CutSides.{label_above, sided_cut}
 use Rattle.parity_laws.proofs.CutShells.{one_shell_cut, no_shell_cut}
 
 -- ---- each part once
-pub once_append : (X Y : List Segment) → Once X → Once Y → ((s : Segment) → In s X → In s Y → ⊥) → Once (X ++ Y)
-once_append [] Y hx hy far = hy
-once_append (t ∷ X) Y hx hy far = (λ i. by_side X (hx.0) (λ j. far t (inl refl) j) i, once_append X Y hx.1 hy (λ s i j. far s (inr i) j))
-  where
-    by_side : (Z : List Segment) → (In t Z → ⊥) → (In t Y → ⊥) → In t (Z ++ Y) → ⊥
-    by_side [] f g i = g i
-    by_side (z ∷ Z) f g i = ⊎_elim (λ (e : t ≡ z). f (inl e)) (λ (j : In t (Z ++ Y)). by_side Z (λ k. f (inr k)) g j) i
 
 parts_once : (T : List Segment) (d : Segment) (m : Point) → IsCut T d m → (t : Segment) → Once (parts d m t)
 parts_once T d m h t = by_tests (exact d t) (exact (back d) t)
@@ -87,12 +80,6 @@ pub cut_rearranged : (T : List Segment) (d : Segment) (m : Point) (U : List Segm
 cut_rearranged T d m U h = rearranged_of (cut d m T) U (cut_once T d m (is_cut T d m U h)) h.new_once h.parts_there h.no_more
 
 -- ---- what carries over to such a list, where each part has the label, or the face, of its step
-pub ringwise_split : (T : List Segment) (d : Segment) (m : Point) (U : List Segment) → IsCutTo T d m U → (p q : Segment → Bool) → ((u : Segment) → In u U → p (whole d m u) ≡ q u) →
-    Ringwise T p → Ringwise U q
-ringwise_split T d m U h p q same rings u v i j next =
-    sym (same u i)
-    ∙ same_ringwise (cut d m T) U (λ s. p (whole d m s)) (cut_rearranged T d m U h) (ringwise_cut T d m (is_cut T d m U h) p rings) u v i j next
-    ∙ same v j
 
 pub sided_split : (T : List Segment) (d : Segment) (m : Point) (U : List Segment) → IsCutTo T d m U → (p q : Segment → Bool) → ((u : Segment) → In u U → p (whole d m u) ≡ q u) →
     Ringwise T p → Sided T p → Sided U q
@@ -106,20 +93,6 @@ above_split T d m U h p q same v =
     ap (λ X. above X v) (sym (those_same (λ u. p (whole d m u)) q U same))
     ∙ sym (same_above (cut d m T) U (λ u. p (whole d m u)) v (cut_rearranged T d m U h))
     ∙ label_above T d m (is_cut T d m U h) p v
-
--- two labels by faces that agree on the steps
-shell_faces : (U : List Segment) (F G : Segment → ℕ) (f : ℕ) (p : Segment → Bool) → ((u : Segment) → In u U → F u ≡ G u) → IsShellOf U F f p → IsShellOf U G f p
-shell_faces U F G f p same s = record { ring = s.ring; face = sym (same s.ring.step s.ring.there) ∙ s.face; is_left = s.is_left }
-
-pub one_shell_faces : (U : List Segment) (F G : Segment → ℕ) (f : ℕ) → ((u : Segment) → In u U → F u ≡ G u) → OneShell U F f → OneShell U G f
-one_shell_faces U F G f same h = record {
-  p = h.p;
-  shell = shell_faces U F G f h.p same h.shell;
-  only = λ q r a b. h.only q r (shell_faces U G F f q (λ u i. sym (same u i)) a) (shell_faces U G F f r (λ u i. sym (same u i)) b);
-}
-
-pub no_shell_faces : (U : List Segment) (F G : Segment → ℕ) (f : ℕ) → ((u : Segment) → In u U → F u ≡ G u) → NoShell U F f → NoShell U G f
-no_shell_faces U F G f same none p h = none p (shell_faces U G F f p (λ u i. sym (same u i)) h)
 
 pub one_shell_split : (T : List Segment) (d : Segment) (m : Point) (U : List Segment) → IsCutTo T d m U → (F G : Segment → ℕ) (f : ℕ) → ((u : Segment) → In u U → F (whole d m u) ≡ G u) →
     OneShell T F f → OneShell U G f

@@ -8,37 +8,26 @@ use Rattle.parity_laws.specs.Steps.{direction}
 use Rattle.parity_laws.specs.Ways.{inside, Outside}
 use Rattle.parity_laws.specs.Cuts.{Inner, first_part, last_part, cut}
 use Rattle.parity_laws.specs.Rings.{In, Next, Ringwise}
-use Rattle.parity_laws.proofs.Tests.{exact_is}
 use Rattle.parity_laws.proofs.Ringwise.{each_in, in_each}
 use Rattle.parity_laws.proofs.Cutting.{Along, first_along, inner_back, from_along}
 use Rattle.parity_laws.proofs.Following.{follows, next_same, inside_end}
 use Rattle.parity_laws.proofs.Nearby.{along_back, last_along, inside_start, inside_along, itself, Pieces, each_cut}
-use Rattle.parity_laws.proofs.Whole.{IsCut, exact, whole, begin_of, end_of, no_vertex, begin_start, end_end, begin_end, begin_there, end_there, part_is, whole_begin, whole_end, whole_there, part_of, pieces_there}
+use Rattle.parity_laws.proofs.Whole.{IsCut, exact, whole, begin_of, end_of, no_vertex, begin_start, end_end, begin_end, begin_there, end_there, part_is, whole_begin, whole_end, whole_there, part_of, chosen_for}
 
 -- ---- directions of parts
 pub begin_along : (d : Segment) (m : Point) (t : Segment) → Inner m d → Along (direction (begin_of d m t)) (direction t)
 begin_along d m t h =
-    by_tests (exact d t) (exact (back d) t)
-    (λ e. subst (λ z. Along (direction (first_part d m)) (direction z)) (exact_is d t e) (first_along d m h))
-    (λ e. subst (λ z. Along (direction (first_part (back d) m)) (direction z)) (exact_is (back d) t e) (first_along (back d) m (inner_back d m h)))
-  where
-    by_tests : (b c : Bool) → (b ≡ true → Along (direction (first_part d m)) (direction t)) → (c ≡ true → Along (direction (first_part (back d) m)) (direction t)) →
-        Along (direction (cond b (first_part d m) (cond c (first_part (back d) m) t))) (direction t)
-    by_tests true c f g = f refl
-    by_tests false true f g = g refl
-    by_tests false false f g = itself (direction t)
+    chosen_for (λ z. Along (direction z) (direction t)) d (first_part d m) (first_part (back d) m) t
+    (λ e. subst (λ z. Along (direction (first_part d m)) (direction z)) e (first_along d m h))
+    (λ e. subst (λ z. Along (direction (first_part (back d) m)) (direction z)) e (first_along (back d) m (inner_back d m h)))
+    (itself (direction t))
 
 pub end_along : (d : Segment) (m : Point) (t : Segment) → Inner m d → Along (direction (end_of d m t)) (direction t)
 end_along d m t h =
-    by_tests (exact d t) (exact (back d) t)
-    (λ e. subst (λ z. Along (direction (last_part d m)) (direction z)) (exact_is d t e) (last_along d m h))
-    (λ e. subst (λ z. Along (direction (last_part (back d) m)) (direction z)) (exact_is (back d) t e) (last_along (back d) m (inner_back d m h)))
-  where
-    by_tests : (b c : Bool) → (b ≡ true → Along (direction (last_part d m)) (direction t)) → (c ≡ true → Along (direction (last_part (back d) m)) (direction t)) →
-        Along (direction (cond b (last_part d m) (cond c (last_part (back d) m) t))) (direction t)
-    by_tests true c f g = f refl
-    by_tests false true f g = g refl
-    by_tests false false f g = itself (direction t)
+    chosen_for (λ z. Along (direction z) (direction t)) d (last_part d m) (last_part (back d) m) t
+    (λ e. subst (λ z. Along (direction (last_part d m)) (direction z)) e (last_along d m h))
+    (λ e. subst (λ z. Along (direction (last_part (back d) m)) (direction z)) e (last_along (back d) m (inner_back d m h)))
+    (itself (direction t))
 
 wedge_along : (u u' w w' d d' : Direction) → Along u u' → Along w w' → Along d d' → inside u w d ≡ inside u' w' d'
 wedge_along u u' w w' d d' h k l = inside_along u u' w d d' h l ∙ turned
@@ -137,12 +126,6 @@ parts_same T d m h g rings t i =
     (λ (e : begin_of d m t ≡ end_of d m t). ap g e)
     (λ (k : Next (cut d m T) (begin_of d m t) (end_of d m t)). rings (begin_of d m t) (end_of d m t) (begin_there d m T t i) (end_there d m T t i) k)
     (parts_next T d m h t)
-
-pub middle_same : (T : List Segment) (d : Segment) (m : Point) → IsCut T d m → (g : Segment → Bool) → Ringwise (cut d m T) g →
-    (g (first_part d m) ≡ g (last_part d m)) × (g (first_part (back d) m) ≡ g (last_part (back d) m))
-middle_same T d m h g rings =
-    let p = pieces_there T d m h in
-    (rings (first_part d m) (last_part d m) p.first p.last (middle_next T d m h), rings (first_part (back d) m) (last_part (back d) m) p.back_first p.back_last (middle_back T d m h))
 
 -- and on a step and the part of its whole with which this begins
 pub whole_same : (T : List Segment) (d : Segment) (m : Point) → IsCut T d m → (g : Segment → Bool) → Ringwise (cut d m T) g → (u : Segment) → In u (cut d m T) → g (begin_of d m (whole d m u)) ≡ g u

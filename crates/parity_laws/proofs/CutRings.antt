@@ -10,8 +10,6 @@ use Rattle.parity_laws.specs.Rings.{In, Next, those, Ringwise, OneRing}
 use Rattle.parity_laws.proofs.Tests.{bool_same}
 use Rattle.parity_laws.proofs.Splitting.{world, cut_constants}
 use Rattle.parity_laws.specs.Coming.{both_ways_of, with_line, LineComes, Enters}
-use Rattle.parity_laws.specs.Shelling.{IsRingOf}
-use Rattle.parity_laws.proofs.RingAt.{rings_there}
 use Rattle.parity_laws.proofs.OnLine.{old_in, way_in, forth_in, back_in, last_in, not_both, way_label, among, in_among, not_among}
 use Rattle.parity_laws.proofs.LineCorners.{entry_label, old_ringwise, new_ringwise}
 use Rattle.parity_laws.proofs.Labels.{those_same}
@@ -65,22 +63,6 @@ pub record Cut (T : List Segment) (first : Segment) (rest : List Segment) (last 
   pub forth : p first ≡ true
   pub not_walked : p (back first) ≡ false
   pub walked : q (back first) ≡ true
-
--- the line has one ring on both of its sides, or cuts one
-pub joined_or_cut : (T : List Segment) (first : Segment) (rest : List Segment) (last : Segment) → LineComes T first rest last →
-    ((p : Segment → Bool) × (IsRingOf (with_line T (first ∷ rest)) p × (p first ≡ true) × (p (back first) ≡ true))) ⊎ ((p : Segment → Bool) × ((q : Segment → Bool) × Cut T first rest last p q))
-joined_or_cut T first rest last c =
-    by_value (rings_there (with_line T (first ∷ rest)) c.new first (way_in T (first ∷ rest) first (forth_in (first ∷ rest) first (inl refl))))
-    (rings_there (with_line T (first ∷ rest)) c.new (back first) (way_in T (first ∷ rest) (back first) (back_in (first ∷ rest) first (inl refl))))
-  where
-    by_value : (p : Segment → Bool) × (IsRingOf (with_line T (first ∷ rest)) p × (p first ≡ true)) → (q : Segment → Bool) × (IsRingOf (with_line T (first ∷ rest)) q × (q (back first) ≡ true)) →
-        ((p : Segment → Bool) × (IsRingOf (with_line T (first ∷ rest)) p × (p first ≡ true) × (p (back first) ≡ true))) ⊎ ((p : Segment → Bool) × ((q : Segment → Bool) × Cut T first rest last p q))
-    by_value p q = by_back (p.0 (back first)) refl
-      where
-        by_back : (x : Bool) → p.0 (back first) ≡ x →
-            ((p : Segment → Bool) × (IsRingOf (with_line T (first ∷ rest)) p × (p first ≡ true) × (p (back first) ≡ true))) ⊎ ((p : Segment → Bool) × ((q : Segment → Bool) × Cut T first rest last p q))
-        by_back true e = inl (p.0, (p.1.0, p.1.1, e))
-        by_back false e = inr (p.0, (q.0, record { p_rings = p.1.0.ringwise; p_one = p.1.0.one; q_rings = q.1.0.ringwise; q_one = q.1.0.one; forth = p.1.1; not_walked = e; walked = q.1.1 }))
 
 -- they have no common step
 pub parts_apart : (T : List Segment) (first : Segment) (rest : List Segment) (last : Segment) (p q : Segment → Bool) → Cut T first rest last p q → (t : Segment) → In t (with_line T (first ∷ rest)) → p t ≡ true → q t ≡ false

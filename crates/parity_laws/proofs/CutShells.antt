@@ -73,18 +73,5 @@ one_shell_cut T d m F f h s = record {
       ∙ whole_same T d m h r b.ring.ringwise u i;
 }
 
-pub one_shell_joined : (T : List Segment) (d : Segment) (m : Point) (F : Segment → ℕ) (f : ℕ) → IsCut T d m → OneShell (cut d m T) (λ u. F (whole d m u)) f → OneShell T F f
-one_shell_joined T d m F f h s = record {
-  p = λ t. s.p (begin_of d m t);
-  shell = shell_joined T d m F f s.p h s.shell;
-  only = λ q r a b t i.
-      ap q (sym (whole_begin T d m h t i))
-      ∙ s.only (λ u. q (whole d m u)) (λ u. r (whole d m u)) (shell_cut T d m F f q h a) (shell_cut T d m F f r h b) (begin_of d m t) (begin_there d m T t i)
-      ∙ ap r (whole_begin T d m h t i);
-}
-
 pub no_shell_cut : (T : List Segment) (d : Segment) (m : Point) (F : Segment → ℕ) (f : ℕ) → IsCut T d m → NoShell T F f → NoShell (cut d m T) (λ u. F (whole d m u)) f
 no_shell_cut T d m F f h none p s = none (λ t. p (begin_of d m t)) (shell_joined T d m F f p h s)
-
-pub no_shell_joined : (T : List Segment) (d : Segment) (m : Point) (F : Segment → ℕ) (f : ℕ) → IsCut T d m → NoShell (cut d m T) (λ u. F (whole d m u)) f → NoShell T F f
-no_shell_joined T d m F f h none p s = none (λ u. p (whole d m u)) (shell_cut T d m F f p h s)

@@ -10,7 +10,6 @@ use Rattle.parity_laws.proofs.Ringwise.{side_next}
 use Rattle.parity_laws.proofs.Star.{those_within}
 use Rattle.parity_laws.proofs.Cutting.{Along, cut_above, cut_left, cut_even, turned_along}
 use Rattle.parity_laws.proofs.Orbits.{label_even}
-use Rattle.parity_laws.proofs.Labels.{those_same}
 use Rattle.parity_laws.proofs.Whole.{IsCut, whole, begin_of, end_of, no_vertex, begin_start, begin_there, end_there, part_is, whole_begin, whole_end, whole_there, those_cut}
 use Rattle.parity_laws.proofs.CutNext.{begin_along, parts_next}
 
@@ -48,19 +47,9 @@ label_left T d m h label rings u i =
     ∙ whole_left T d m h (those label T) (label_even T h.plain h.once label rings) (those_within label T) u i
 
 -- ---- sides
-pub sided_same : (T : List Segment) (p q : Segment → Bool) → ((s : Segment) → In s T → p s ≡ q s) → Sided T p → Sided T q
-sided_same T p q same sided s i = ap (λ X. left X s) (sym (those_same p q T same)) ∙ sided s i ∙ same s i
 
 pub sided_cut : (T : List Segment) (d : Segment) (m : Point) → IsCut T d m → (label : Segment → Bool) → Ringwise T label → Sided T label → Sided (cut d m T) (λ u. label (whole d m u))
 sided_cut T d m h label rings sided u i = label_left T d m h label rings u i ∙ sided (whole d m u) (whole_there T d m h u i)
-
-pub sided_joined : (T : List Segment) (d : Segment) (m : Point) → IsCut T d m → (label parts_label : Segment → Bool) → ((u : Segment) → In u (cut d m T) → parts_label u ≡ label (whole d m u)) →
-    Sided (cut d m T) parts_label → Sided T label
-sided_joined T d m h label parts_label same sided t i =
-    sym (begin_left T d m h (those label T) t i)
-    ∙ ap (λ X. left X (begin_of d m t)) (sym (those_cut T d m label h T (λ s j. j)))
-    ∙ sided_same (cut d m T) parts_label (λ u. label (whole d m u)) same sided (begin_of d m t) (begin_there d m T t i)
-    ∙ ap label (whole_begin T d m h t i)
 
 -- above each point the steps with a label stay as they are
 pub label_above : (T : List Segment) (d : Segment) (m : Point) → IsCut T d m → (label : Segment → Bool) (v : Point) → above (those (λ u. label (whole d m u)) (cut d m T)) v ≡ above (those label T) v

@@ -18,8 +18,9 @@ use Rattle.plane.specs.Direction.{Direction, cross}
 use Rattle.parity_laws.specs.Steps.{direction, before, leaves_before, odd, Each, Even, above, turned, left}
 use Rattle.parity_laws.specs.Cuts.{Inner, first_part, last_part, parts, cut}
 use Rattle.parity_laws.proofs.Sums.{xor_none, xor_comm, odd_append, odd_each, summing, xor_between}
-use Rattle.parity_laws.proofs.Tests.{lt_yes, lt_no, yes_lt, no_lt, same_not, crossed_turned, exact_is, zero_neg, area_back}
+use Rattle.parity_laws.proofs.Tests.{same_not, crossed_turned, exact_is, zero_neg, area_back}
 use Rattle.parity_laws.proofs.Gap.{seg}
+use Rattle.plane.proofs.Tests.{lt_yes, lt_no, yes_lt, no_lt}
 
 -- ---- a list with each s cut
 cut_keeps : (f : Segment → Bool) (s : Segment) (m : Point) → f s ≡ xor (f (first_part s m)) (f (last_part s m)) → f (back s) ≡ xor (f (first_part (back s) m)) (f (last_part (back s) m)) →

@@ -12,10 +12,10 @@ use Rattle.parity_laws.proofs.Tests.{same_self, same_not}
 use Rattle.parity_laws.proofs.Gap.{twin_yes}
 use Rattle.parity_laws.proofs.Walking.{chained_ends}
 use Rattle.parity_laws.proofs.Ringwise.{each_in, side_back}
-use Rattle.parity_laws.proofs.Lists.{in_left}
+use Rattle.parity_laws.proofs.Lists.{in_left, in_cases}
 use Rattle.parity_laws.specs.Coming.{walked_back, both_ways_of, with_line, Strung, LineComes}
 use Rattle.parity_laws.proofs.Linking.{LinkedPoints, PartedPoints, linked_or_parted}
-use Rattle.parity_laws.proofs.OnLine.{in_cases, in_walked, once_apart, once_right, old_in, way_in, forth_in, back_in, not_both, left_ringwise, times_none}
+use Rattle.parity_laws.proofs.OnLine.{in_walked, once_apart, once_right, old_in, way_in, forth_in, back_in, not_both, left_ringwise, times_none}
 
 -- the ends of two steps of one ring are linked
 ring_links : (T : List Segment) (R : Segment → Bool) (d e : Segment) → OneRing T R → In d T → In e T → R d ≡ true → R e ≡ true → LinkedPoints T e.b d.b

@@ -23,11 +23,12 @@ use Rattle.parity_laws.specs.Steps.{direction, rightward, twin, above, times}
 use Rattle.parity_laws.specs.Ways.{Tied, Meets, Fork}
 use Rattle.parity_laws.specs.Rings.{In, Plain, Within}
 use Rattle.parity_laws.proofs.Sums.{odd_both, odd_each, xor_yes_no, xor_no_yes, xor_neither, xor_four}
-use Rattle.parity_laws.proofs.Tests.{lt_yes, lt_no, yes_lt, no_lt, not_and_parts, not_and_from, and_third, and_comm, exact_is, exact_self, same_half}
+use Rattle.parity_laws.proofs.Tests.{not_and_parts, not_and_from, and_third, and_comm, exact_is, exact_self, same_half}
 use Rattle.parity_laws.proofs.Gap.{seg, rightward_yes, rightward_no}
 use Rattle.parity_laws.proofs.Scaling.{lt_larger, sign_larger, odd_larger}
 use Rattle.parity_laws.proofs.Viewing.{width, height, area_height, Over, over_out, over_in, Lowest}
 use Rattle.parity_laws.proofs.Ringwise.{each_in, in_each}
+use Rattle.plane.proofs.Tests.{lt_yes, lt_no, yes_lt, no_lt}
 
 pub right_yes : (s : Segment) → s.a.x <ℤ s.b.x → rightward (direction s) ≡ true
 right_yes s h = rightward_yes s.a s.b (record { along = omega (arith, signed); down = λ k. absurd (omega (arith, signed)) })

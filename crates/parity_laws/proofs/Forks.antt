@@ -12,7 +12,8 @@ use Rattle.plane.specs.Direction.{Direction, cross}
 use Rattle.parity_laws.specs.Steps.{direction, rightward}
 use Rattle.parity_laws.specs.Ways.{Apart, Fork}
 use Rattle.parity_laws.proofs.Gap.{seg}
-use Rattle.parity_laws.proofs.Tests.{lt_yes, lt_no, same_half}
+use Rattle.parity_laws.proofs.Tests.{same_half}
+use Rattle.plane.proofs.Tests.{lt_yes, lt_no}
 
 between_shift : (a y b d : ℤ) → IsBetween (a *ℤ d) y (b *ℤ d) → IsBetween (pos 0) (y -ℤ a *ℤ d) ((b -ℤ a) *ℤ d)
 between_shift a y b d h =

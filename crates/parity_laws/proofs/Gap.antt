@@ -15,7 +15,8 @@ use Rattle.plane.specs.Direction.{Direction, cross}
 use Rattle.parity_laws.specs.Steps.{direction, rightward, first_of, before, leaves_before, twin}
 use Rattle.parity_laws.specs.Ways.{Onward, Apart}
 use Rattle.parity_laws.proofs.Sums.{xor_none}
-use Rattle.parity_laws.proofs.Tests.{lt_yes, lt_no, lt_self, yes_lt, no_lt, and_first, and_second, and_third, same_self, same_not, same_turned, area_cycle, area_turned, lt_turned, one_first}
+use Rattle.parity_laws.proofs.Tests.{and_first, and_second, and_third, same_self, same_not, same_turned, area_cycle, area_turned, lt_turned, one_first}
+use Rattle.plane.proofs.Tests.{lt_yes, lt_no, lt_self, yes_lt, no_lt}
 
 abbrev pub seg : Point → Point → Segment
 seg v w = record { a = v; b = w }

@@ -60,7 +60,6 @@ pub mod LineGoneShells
 pub mod JoinedFaces
 pub mod JoinedSides
 pub mod JoinedShells
-pub mod LineEnds
 pub mod OneFace
 pub mod PartedRings
 pub mod PartedShells

@@ -8,12 +8,11 @@ use Rattle.parity_laws.specs.Rings.{In, Within, those, Ringwise, Sided}
 use Rattle.parity_laws.proofs.Sums.{xor_comm}
 use Rattle.parity_laws.proofs.Lists.{those_append, all_those}
 use Rattle.parity_laws.proofs.Ringwise.{in_each}
-use Rattle.parity_laws.specs.Shelling.{IsRingOf}
-use Rattle.parity_laws.specs.Coming.{both_ways_of, with_line, LineComes, Enters}
+use Rattle.parity_laws.specs.Coming.{both_ways_of, with_line, LineComes}
 use Rattle.parity_laws.proofs.OnLine.{old_in, way_in, forth_in, back_in, way_label, last_in, among, in_among, not_among, not_both}
 use Rattle.parity_laws.proofs.LineFaces.{left_on_line, left_at_alone}
 use Rattle.parity_laws.proofs.Labels.{those_same}
-use Rattle.parity_laws.proofs.OldRings.{those_front, odd_both_ways, left_with_line, ring_stays}
+use Rattle.parity_laws.proofs.OldRings.{those_front, odd_both_ways, left_with_line}
 
 -- ---- the line's first step
 pub first_there : (T : List Segment) (first : Segment) (rest : List Segment) → In first (with_line T (first ∷ rest))
@@ -56,10 +55,6 @@ pub value_on_line : (L : List Segment) (v : Bool) (h : Segment → Bool) (s : Se
 value_on_line L v h s i = ap (λ b. cond b v (h s)) (in_among (both_ways_of L) s i)
 
 -- ---- an old ring that doesn't enter the line was a ring with the line
-pub was_ring : (T : List Segment) (first : Segment) (rest : List Segment) (last : Segment) (u : Segment → Bool) → LineComes T first rest last → IsRingOf T u →
-    ((d : Segment) → In d T → u d ≡ true → Enters (with_line T (first ∷ rest)) first last d → ⊥) → IsRingOf (with_line T (first ∷ rest)) (with_value (first ∷ rest) false u)
-was_ring T first rest last u c ring off =
-    ring_stays T first rest last u (with_value (first ∷ rest) false u) c ring (value_old T first rest last false u c) (value_on_line (first ∷ rest) false u) off
 
 -- and its own parity is the same
 pub was_left : (T : List Segment) (first : Segment) (rest : List Segment) (last : Segment) (u : Segment → Bool) → LineComes T first rest last →

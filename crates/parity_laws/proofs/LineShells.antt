@@ -1,5 +1,5 @@
 -- The faces of a drawing where a line comes, and their shells where it closes no ring.
-use Rattle.std.proofs.Common.{◌≡◌, ◌≢◌, refl, sym, ◌∙◌, ap, subst, arith, ℕ, suc, zero, ◌⊎◌, inl, inr, ⊎_elim, Bool, true, false, List, ◌∷◌, eqb, eq-eqb}
+use Rattle.std.proofs.Common.{◌≡◌, refl, sym, ◌∙◌, ap, subst, ℕ, ◌⊎◌, inl, inr, ⊎_elim, Bool, true, false, List, ◌∷◌, eqb, eq-eqb}
 use Rattle.std.proofs.lemmas.Bool.{both_ways, eqb-true, or_cases, or_left, or_right}
 use Rattle.plane.specs.Segment.{Segment}
 use Rattle.plane.specs.Parity.{xor}
@@ -20,18 +20,6 @@ use Rattle.parity_laws.proofs.OldRings.{left_with_line, ring_off_line, ring_stay
 use Rattle.parity_laws.proofs.JoinedRings.{EndRing, end_ring, ends_one_or_apart, joined_ring, left_at_entry, joined_apart, joined_one, left_empty}
 
 -- ---- faces of steps
--- numbers that are equal to the same numbers other than 0 are equal
-one_number : (m n : ℕ) → ((k : ℕ) → k ≢ 0 → eqb m k ≡ eqb n k) → m ≡ n
-one_number zero zero h = refl
-one_number zero (suc n) h = eqb-true 0 (suc n) (h (suc n) (λ e. absurd (omega arith)) ∙ eq-eqb (suc n) (suc n) refl)
-one_number (suc m) n h = sym (eqb-true n (suc m) (sym (h (suc m) (λ e. absurd (omega arith))) ∙ eq-eqb (suc m) (suc m) refl))
-
--- the face whose parity is left of the line is that of each step that enters it
-pub entry_face : (T : List Segment) (first : Segment) (rest : List Segment) (last : Segment) (F : Segment → ℕ) (f : ℕ) → LineComes T first rest last → ((g : ℕ) → Ringwise T (of_face F g)) →
-    ((g : ℕ) → g ≢ 0 → Sided T (of_face F g)) → ((g : ℕ) → g ≢ 0 → left (those (of_face F g) T) first ≡ eqb f g) →
-    (d : Segment) → In d T → Enters (with_line T (first ∷ rest)) first last d → F d ≡ f
-entry_face T first rest last F f c rings sided at d i enters =
-    one_number (F d) f (λ g n. sym (sided g n d i) ∙ sym (left_at_entry T first rest last (those (of_face F g) T) d c (label_even T c.old.plain c.old.once (of_face F g) (rings g)) (those_within (of_face F g) T) i enters) ∙ at g n)
 
 -- along a line that is entered from a step the parity of each face says whether it is that step's
 pub entry_parity : (T : List Segment) (first : Segment) (rest : List Segment) (last : Segment) (F : Segment → ℕ) (g : ℕ) (d : Segment) → LineComes T first rest last → Ringwise T (of_face F g) → Sided T (of_face F g) →

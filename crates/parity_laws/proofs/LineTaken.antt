@@ -1,5 +1,5 @@
 -- A line taken from the middle of a drawing's steps.
-use Rattle.std.proofs.Common.{◌≡◌, refl, sym, ◌∙◌, ap, ◌⊎◌, inl, inr, ⊎_elim, Bool, List, [], ◌∷◌, ◌++◌}
+use Rattle.std.proofs.Common.{◌≡◌, sym, ◌∙◌, ap, ◌⊎◌, ⊎_elim, Bool, List, [], ◌∷◌, ◌++◌}
 use Rattle.plane.specs.Segment.{Segment}
 use Rattle.plane.specs.Parity.{xor}
 use Rattle.plane.specs.Crossings.{back}
@@ -7,21 +7,17 @@ use Rattle.parity_laws.specs.Steps.{odd}
 use Rattle.parity_laws.specs.Ways.{Tied}
 use Rattle.parity_laws.specs.Rings.{In, Within, Once, Drawn, those}
 use Rattle.parity_laws.proofs.Sums.{odd_append, summing}
-use Rattle.parity_laws.proofs.Lists.{in_left, in_right, those_append}
+use Rattle.parity_laws.proofs.Lists.{in_left, in_right, those_append, in_cases, once_append}
 use Rattle.parity_laws.proofs.Ringwise.{each_within}
 use Rattle.parity_laws.proofs.Rearranging.{Rearranged}
 use Rattle.parity_laws.specs.Coming.{both_ways_of, Strung}
-use Rattle.parity_laws.proofs.OnLine.{in_cases, once_apart, once_right, way_turned}
+use Rattle.parity_laws.proofs.OnLine.{once_apart, once_right, way_turned}
 use Rattle.parity_laws.proofs.LineGoes.{LineGoes, line_goes}
 
 -- ---- lists without repeats
 once_left : (X Y : List Segment) → Once (X ++ Y) → Once X
 once_left [] Y once = tt
 once_left (t ∷ X) Y once = (λ i. once.0 (in_left t X Y i), once_left X Y once.1)
-
-once_append : (X Y : List Segment) → Once X → Once Y → ((s : Segment) → In s X → In s Y → ⊥) → Once (X ++ Y)
-once_append [] Y a b apart = b
-once_append (t ∷ X) Y a b apart = (λ i. ⊎_elim (λ (j : In t X). a.0 j) (λ (j : In t Y). apart t (inl refl) j) (in_cases t X Y i), once_append X Y a.1 b (λ s i j. apart s (inr i) j))
 
 -- ---- the middle of a list moved to its end
 moved_there : (A W B : List Segment) → Within (A ++ (W ++ B)) ((A ++ B) ++ W)

@@ -9,7 +9,7 @@ use Rattle.parity_laws.specs.Steps.{odd, Each}
 use Rattle.parity_laws.specs.Rings.{In, Within}
 use Rattle.parity_laws.proofs.Sums.{xor_comm, xor_self, odd_append, summing}
 use Rattle.parity_laws.proofs.Tests.{same_self, same_is}
-use Rattle.parity_laws.proofs.OnLine.{in_cases}
+use Rattle.parity_laws.proofs.Lists.{in_cases}
 
 -- steps of the list that end, modulo 2, at x and y alone
 pub record LinkedPoints (T : List Segment) (x y : Point) : Type 0 where

@@ -20,7 +20,7 @@ use Rattle.parity_laws.specs.Ways.{Onward, Tied, Meets, Fork, Apart, inside, Out
 use Rattle.parity_laws.specs.Walks.{NotAt}
 use Rattle.parity_laws.specs.Rings.{In, Within, SeesLeft}
 use Rattle.parity_laws.specs.Cuts.{Inner, first_part, last_part, parts, cut}
-use Rattle.parity_laws.proofs.Tests.{crossed_turned, lt_yes, lt_no, apart_turned, exact_self}
+use Rattle.parity_laws.proofs.Tests.{crossed_turned, apart_turned, exact_self}
 use Rattle.parity_laws.proofs.Gap.{seg, before_self, rightward_yes, rightward_no}
 use Rattle.parity_laws.proofs.Across.{start_on, end_on}
 use Rattle.parity_laws.proofs.Corner.{onward_or_back}
@@ -31,6 +31,7 @@ use Rattle.parity_laws.proofs.Forks.{fork_only}
 use Rattle.parity_laws.proofs.Ringwise.{each_in}
 use Rattle.parity_laws.proofs.Lists.{each_append}
 use Rattle.parity_laws.proofs.Scaling.{mul_less}
+use Rattle.plane.proofs.Tests.{lt_yes, lt_no}
 
 -- ---- directions along d, against it, and to its left
 pub along_back : (s t : Segment) → Along (direction s) (direction t) → Along (direction (back s)) (direction (back t))

@@ -13,7 +13,7 @@ use Rattle.plane.specs.RationalTests.{IsOn, area_at}
 use Rattle.plane.specs.Relation.{AreApart}
 use Rattle.plane.specs.Orientation.{area}
 use Rattle.plane.specs.Crossings.{back, larger, larger_segment, way}
-use Rattle.plane.proofs.Middle.{not_zero, cancel_le}
+use Rattle.plane.proofs.Middle.{not_zero, cancel_le, same_other}
 use Rattle.parity_laws.specs.Steps.{Even, above, above_at, left}
 use Rattle.parity_laws.specs.Walks.{NotAt}
 use Rattle.parity_laws.specs.Rings.{In, Within, Drawn, SeesLeft, SeesLeftAt}
@@ -91,9 +91,6 @@ inner_larger c d m h on na nb = record {
   not_end = λ e. nb (same_of_larger c m d.b h e);
 }
 
-same_turned_round : (p q : RationalPoint) → SamePoint p q → SamePoint q p
-same_turned_round p q e = (sym e.0, sym e.1)
-
 -- the rational point in the larger plane, back in the plane
 as_it_was : (c k : ℤ) (h : pos 0 <ℤ k) (m : RationalPoint) → k ≡ m.d *ℤ c → SamePoint (smaller_spot k h (rational (times_point m c))) m
 as_it_was c k h m e = (one m.x, one m.y)
@@ -137,7 +134,7 @@ sees_larger T d m q drawn s = record {
     h = mul_positive m.d q.d m.whole q.whole
 
     not_end : (t : Segment) (p : Point) → In t T → IsOn (rational p) t → larger (m.d *ℤ q.d) p ≢ times_point q m.d
-    not_end t p i on e = s.off t i (on_same t (rational p) q (same_turned_round q (rational p) (same_of_larger m.d q p m.whole (sym (ap (λ z. larger z p) (mul_comm q.d m.d) ∙ e)))) on)
+    not_end t p i on e = s.off t i (on_same t (rational p) q (same_other q (rational p) (same_of_larger m.d q p m.whole (sym (ap (λ z. larger z p) (mul_comm q.d m.d) ∙ e)))) on)
 
 -- q sees d from the left: the parity above q is that left of d
 pub near_left_at : (T : List Segment) (X : List Segment) (d : Segment) (m q : RationalPoint) → Drawn T → SeesLeftAt T d m q → Even X → Within X T → left X d ≡ above_at X q

@@ -134,10 +134,3 @@ pub no_two_holes : (T : List Segment) (p q : Segment → Bool) (a b : Segment) �
     left (those p T) a ≡ false → left (those q T) b ≡ false → ⊥
 no_two_holes T p q a b drawn hp hq op oq apart i j pa qb e la lb =
     no_linked_holes T p q a b drawn hp hq op oq apart i j pa qb (vertex_linked T a b drawn.plain i j e) la lb
-
--- nor on a hole of a face and on the ring at the highest vertex of that face
-pub no_hole_at_shell : (T : List Segment) (face p q : Segment → Bool) (a b : Segment) → Drawn T → Ringwise T face → Ringwise T p → OneRing T q → Sided T face →
-    ((s : Segment) → In s T → p s ≡ true → face s ≡ true) → (t : Top T face) → q t.r ≡ true → In a T → In b T → p a ≡ true → q b ≡ true → a.a ≡ b.a →
-    left (those p T) a ≡ false → ⊥
-no_hole_at_shell T face p q a b drawn hf hp oq sided part t qt i j pa qb e la =
-    no_hole_linked_to_shell T face p q a b drawn hf hp oq sided part t qt i j pa qb (vertex_linked T a b drawn.plain i j e) la

@@ -13,19 +13,11 @@ use Rattle.parity_laws.specs.Rings.{In, Next, Plain, Within, Once, Ringwise}
 use Rattle.parity_laws.proofs.Sums.{odd_none}
 use Rattle.parity_laws.proofs.Ringwise.{in_each, side_next}
 use Rattle.parity_laws.proofs.Tests.{exact_is, exact_self}
-use Rattle.parity_laws.proofs.Lists.{in_left, in_right}
+use Rattle.parity_laws.proofs.Lists.{in_left, in_right, in_cases}
 use Rattle.parity_laws.specs.Coming.{walked_back, both_ways_of, with_line, Strung, LineComes}
 use Rattle.parity_laws.proofs.Wedges.{next_from, side_outside}
 
 -- ---- lists
-pub in_cases : (s : Segment) (X Y : List Segment) → In s (X ++ Y) → In s X ⊎ In s Y
-in_cases s [] Y i = inr i
-in_cases s (t ∷ X) Y i =
-    ⊎_elim
-    (λ (e : s ≡ t). inl (inl e))
-    (λ (j : In s (X ++ Y)). ⊎_elim (λ (k : In s X). inl (inr k)) (λ (k : In s Y). inr k) (in_cases s X Y j))
-    i
-
 pub in_walked : (s : Segment) (L : List Segment) → In s L → In (back s) (walked_back L)
 in_walked s [] i = absurd i
 in_walked s (t ∷ L) i =

@@ -1,26 +1,15 @@
 -- In which face a point is after a line has divided one.
-use Rattle.std.proofs.Common.{◌≡◌, ◌≢◌, refl, sym, ◌∙◌, ap, subst, ℕ, ◌⊎◌, inl, inr, ⊎_elim, Bool, true, false, not, List}
+use Rattle.std.proofs.Common.{◌≡◌, ◌≢◌, refl, sym, ◌∙◌, ap, ℕ, ◌⊎◌, inl, inr, ⊎_elim, Bool, true, false, not, List}
 use lib.Dec.{eqb}
 use Rattle.std.proofs.lemmas.Bool.{both_ways, eqb-true, eqb-false, eq-eqb, ne_eqb}
 use Rattle.topo_base.specs.Point.{Point}
 use Rattle.plane.specs.Segment.{Segment}
-use Rattle.plane.specs.Parity.{xor}
 use Rattle.parity_laws.specs.Steps.{Even, above, left}
-use Rattle.parity_laws.specs.Rings.{In, Within, those, Drawn, Ringwise, Sided, of_face}
+use Rattle.parity_laws.specs.Rings.{In, Within, those, Drawn, Ringwise, Sided, of_face, IsInFace}
 use Rattle.parity_laws.proofs.Star.{those_within}
 use Rattle.parity_laws.proofs.Splitting.{world}
-use Rattle.parity_laws.proofs.Pointing.{point_view, one_face}
+use Rattle.parity_laws.proofs.Pointing.{point_view}
 use Rattle.parity_laws.proofs.Dividing.{Divides, IsOuterPart, divided_rings}
-
--- by parity v is in the face f: its parity is 1 alone; in face 0 none is
-abbrev pub IsInFace : List Segment → (Segment → ℕ) → ℕ → Point → Type 0
-IsInFace T F f v = (g : ℕ) → g ≢ 0 → above (those (of_face F g) T) v ≡ eqb f g
-
--- one parity that is 1 is enough
-pub in_face_of : (T : List Segment) (F : Segment → ℕ) (f : ℕ) (v : Point) → Drawn T → ((g : ℕ) → Ringwise T (of_face F g)) → ((g : ℕ) → g ≢ 0 → Sided T (of_face F g)) → f ≢ 0 → above (those (of_face F f) T) v ≡ true → IsInFace T F f v
-in_face_of T F f v drawn faces sided n h =
-    let k = one_face T F v drawn (λ g m. (world T (of_face F g) drawn (faces g)).rings.even) sided in
-    subst (λ z. IsInFace T F z v) (eqb-true k.0 f (sym (k.1 f n) ∙ h)) k.1
 
 -- nothing is above v, or a step of its face has on its left what v has above it
 abbrev FaceView : List Segment → (Segment → ℕ) → ℕ → Point → Type 0
@@ -124,24 +113,3 @@ point_stays T F G f a b e p q v g drawn d sided n h =
   where
     rings : (g : ℕ) → Ringwise T (of_face G g)
     rings = divided_rings T F G f a b e p q drawn d
-
--- the parities of the parts above a point of the divided face
-pub first_parity : (T : List Segment) (F G : Segment → ℕ) (f a b : ℕ) (e : Segment) (p q : Segment → Bool) (v : Point) → Drawn T → Divides T F G f a b e p q → ((g : ℕ) → g ≢ 0 → Sided T (of_face G g)) →
-    (f ≢ 0) ⊎ IsOuterPart T p e a b → IsInFace T F f v → a ≢ 0 → above (those (of_face G a) T) v ≡ not (xor (above (those p T) v) (left (those p T) e))
-first_parity T F G f a b e p q v drawn d sided outer h na = by_value (above (those p T) v) (left (those p T) e) refl refl
-  where
-    by_value : (x y : Bool) → above (those p T) v ≡ x → left (those p T) e ≡ y → above (those (of_face G a) T) v ≡ not (xor x y)
-    by_value true true k m = point_in_first T F G f a b e p q v drawn d sided outer h (k ∙ sym m) a na ∙ eq-eqb a a refl
-    by_value false false k m = point_in_first T F G f a b e p q v drawn d sided outer h (k ∙ sym m) a na ∙ eq-eqb a a refl
-    by_value true false k m = point_in_second T F G f a b e p q v drawn d sided outer h (k ∙ sym (ap not m)) a na ∙ ne_eqb b a (λ z. d.differ (sym z))
-    by_value false true k m = point_in_second T F G f a b e p q v drawn d sided outer h (k ∙ sym (ap not m)) a na ∙ ne_eqb b a (λ z. d.differ (sym z))
-
-pub second_parity : (T : List Segment) (F G : Segment → ℕ) (f a b : ℕ) (e : Segment) (p q : Segment → Bool) (v : Point) → Drawn T → Divides T F G f a b e p q → ((g : ℕ) → g ≢ 0 → Sided T (of_face G g)) →
-    (f ≢ 0) ⊎ IsOuterPart T p e a b → IsInFace T F f v → b ≢ 0 → above (those (of_face G b) T) v ≡ xor (above (those p T) v) (left (those p T) e)
-second_parity T F G f a b e p q v drawn d sided outer h nb = by_value (above (those p T) v) (left (those p T) e) refl refl
-  where
-    by_value : (x y : Bool) → above (those p T) v ≡ x → left (those p T) e ≡ y → above (those (of_face G b) T) v ≡ xor x y
-    by_value true true k m = point_in_first T F G f a b e p q v drawn d sided outer h (k ∙ sym m) b nb ∙ ne_eqb a b d.differ
-    by_value false false k m = point_in_first T F G f a b e p q v drawn d sided outer h (k ∙ sym m) b nb ∙ ne_eqb a b d.differ
-    by_value true false k m = point_in_second T F G f a b e p q v drawn d sided outer h (k ∙ sym (ap not m)) b nb ∙ eq-eqb b b refl
-    by_value false true k m = point_in_second T F G f a b e p q v drawn d sided outer h (k ∙ sym (ap not m)) b nb ∙ eq-eqb b b refl

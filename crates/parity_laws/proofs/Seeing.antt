@@ -13,13 +13,13 @@ use Rattle.plane.specs.Parity.{xor}
 use Rattle.parity_laws.specs.Steps.{Even, above, times, left}
 use Rattle.parity_laws.specs.Rings.{In, Plain, Within, those, View, Drawn, Ringwise, Sided}
 use Rattle.parity_laws.proofs.Sums.{odd_none, summing}
-use Rattle.parity_laws.proofs.Tests.{lt_yes, lt_no}
 use Rattle.parity_laws.proofs.Walking.{under}
 use Rattle.parity_laws.proofs.Ringwise.{in_each, side_next, side_back}
 use Rattle.parity_laws.proofs.Viewing.{width, area_drop, Over, Lowest, lowest, down, vertex_above, wedge_at}
 use Rattle.parity_laws.proofs.Footing.{Foot, foot, wide, foot_above}
 use Rattle.parity_laws.proofs.Footway.{left_foot}
 use Rattle.parity_laws.proofs.Splitting.{has_next, split_first, split_outer}
+use Rattle.plane.proofs.Tests.{lt_yes, lt_no}
 
 pub nothing_over : (T : List Segment) (v : Point) → Plain T → ((t : Segment) → In t T → over t v ≡ false) → (X : List Segment) → Within X T → above X v ≡ false
 nothing_over T v plain h X w = odd_none (λ t. crosses t v) X (in_each (λ t. crosses t v ≡ false) X (λ t i. cc (h t (w t i), h (back t) (plain.both t (w t i)))))

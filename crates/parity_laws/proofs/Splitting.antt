@@ -3,12 +3,11 @@ use Rattle.std.proofs.Common.{◌≡◌, refl, sym, ◌∙◌, ap, subst, ◌≤
 use Rattle.std.proofs.lemmas.Bool.{both_ways}
 use Rattle.plane.specs.Segment.{Segment}
 use Rattle.plane.specs.Parity.{xor}
-use Rattle.plane.specs.Crossings.{over, back, crosses}
+use Rattle.plane.specs.Crossings.{back, crosses}
 use Rattle.parity_laws.specs.Steps.{odd, Each, direction, leaves_before, above, turned, times, left}
 use Rattle.parity_laws.specs.Walks.{NoHigher}
 use Rattle.parity_laws.specs.Rings.{In, Next, those, has, First, View, Drawn, Ringwise, Sided}
-use Rattle.parity_laws.proofs.Sums.{xor_comm, summing, xor_four, xor_pair, xor_left, xor_assoc}
-use Rattle.parity_laws.proofs.Tests.{no_lt}
+use Rattle.parity_laws.proofs.Sums.{summing, xor_four, xor_left, xor_assoc}
 use Rattle.parity_laws.proofs.Walking.{nothing_above}
 use Rattle.parity_laws.proofs.Ringwise.{side_next, side_back, in_each, each_in}
 use Rattle.parity_laws.proofs.Star.{Least, least, those_in, in_those, those_within, has_label, times_has}
@@ -16,7 +15,7 @@ use Rattle.parity_laws.proofs.Following.{follows}
 use Rattle.parity_laws.proofs.Orbits.{label_even}
 use Rattle.parity_laws.proofs.Shells.{World, first_left, shell_law}
 use Rattle.parity_laws.proofs.Climbing.{by_two, first_at, higher, higher_irr, higher_onward}
-use Rattle.parity_laws.proofs.Across.{leaves_back}
+use Rattle.plane.proofs.Tests.{no_lt}
 
 -- ---- the labels of two lists
 
@@ -101,14 +100,6 @@ left_both T p q s =
 
 pub join_faces : (T : List Segment) (f g : Segment → Bool) → Sided T f → Sided T g → Sided T (λ s. xor (f s) (g s))
 join_faces T f g hf hg s i = left_both T f g s ∙ cc (hf s i, hg s i)
-
--- an edge with one face on both sides adds nothing
-pub pair_gone : (s : Segment) (X : List Segment) (t : Segment) → left (s ∷ back s ∷ X) t ≡ left X t
-pair_gone s X t =
-    cc (gone (crosses s t.a) (crosses (back s) t.a) (above X t.a) (xor_comm (over s t.a) (over (back s) t.a)), gone (leaves_before t.a (direction t) s) (leaves_before t.a (direction t) (back s)) (turned X t.a (direction t)) (sym (leaves_back t.a (direction t) s)))
-  where
-    gone : (a b c : Bool) → a ≡ b → xor a (xor b c) ≡ c
-    gone a b c e = rw e (xor_pair b c)
 
 -- ---- a ring cut in two
 -- one has the step, the other the step backwards: left of the two, c and c' make the c of both together, changed

@@ -34,12 +34,6 @@ xor_pair false b = refl
 -- sorts a sum, and lets pairs go
 pub ruleset summing = (xor_pair, xor_self, xor_none, xor_assoc, xor_comm, xor_left)
 
-pub move : (a b c : Bool) → xor a b ≡ c → a ≡ xor c b
-move true true c e = cc
-move true false c e = cc
-move false true c e = cc
-move false false c e = cc
-
 pub equal : (a b : Bool) → xor a b ≡ false → a ≡ b
 equal true true e = refl
 equal true false e = cc

@@ -1,32 +1,17 @@
 -- Tests of numbers, points and directions.
 use Rattle.std.proofs.Common.{◌≡◌, ◌≢◌, refl, sym, ◌∙◌, arith, ℤ, pos, ◌<ℤ◌, ◌≤ℤ◌, ◌⊎◌, ⊎_elim, Bool, true, false, not, ◌&&◌, ap, inl, inr}
 use Rattle.std.specs.Prelude.{neg_ℤ, int_lt}
-use Rattle.std.proofs.lemmas.Int.{ints}
 use Rattle.std.proofs.lemmas.Bool.{both_ways, and_parts}
 use Rattle.plane.proofs.PointTests.{Decides-same_point}
 use Rattle.plane.proofs.Ring.{multiplied, signed}
 use Rattle.plane.proofs.Signs.{order}
+use Rattle.plane.proofs.Tests.{lt_yes, lt_no, lt_self, yes_lt}
 use Rattle.topo_base.specs.Point.{Point, same_point}
 use Rattle.plane.specs.Orientation.{area}
 use Rattle.plane.specs.Direction.{Direction, cross}
 use Rattle.plane.specs.Segment.{Segment}
 use Rattle.parity_laws.specs.Steps.{rightward, first_of, before}
 use Rattle.parity_laws.specs.Ways.{Apart}
-
-pub lt_yes : (x y : ℤ) → x <ℤ y → int_lt x y ≡ true
-lt_yes x y h = let e : true ≡ int_lt x y = omega (arith, ints) in sym e
-
-pub lt_no : (x y : ℤ) → y ≤ℤ x → int_lt x y ≡ false
-lt_no x y h = let e : false ≡ int_lt x y = omega (arith, ints) in sym e
-
-pub lt_self : (x : ℤ) → int_lt x x ≡ false
-lt_self x = lt_no x x (omega (arith, signed))
-
-pub yes_lt : (x y : ℤ) → int_lt x y ≡ true → x <ℤ y
-yes_lt x y e = omega (arith, ints)
-
-pub no_lt : (x y : ℤ) → int_lt x y ≡ false → y ≤ℤ x
-no_lt x y e = omega (arith, ints)
 
 pub bool_same : (a b : Bool) → (a ≡ true → b ≡ true) → (b ≡ true → a ≡ true) → a ≡ b
 bool_same true b f g = sym (f refl)

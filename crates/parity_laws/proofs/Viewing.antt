@@ -21,7 +21,7 @@ use Rattle.parity_laws.specs.Steps.{Even, direction, rightward, first_of, before
 use Rattle.parity_laws.specs.Ways.{Tied, Meets, Fork, Apart, Outside}
 use Rattle.parity_laws.specs.Rings.{In, Plain, Within, Drawn}
 use Rattle.parity_laws.proofs.Sums.{xor_none, odd_both, odd_each, xor_yes_no, xor_no_yes, xor_neither, xor_four}
-use Rattle.parity_laws.proofs.Tests.{same_self, same_is, same_not, area_cycle, lt_self, lt_yes, lt_no, yes_lt, no_lt, not_and_parts, and_third, same_half}
+use Rattle.parity_laws.proofs.Tests.{same_self, same_is, same_not, area_cycle, not_and_parts, and_third, same_half}
 use Rattle.parity_laws.proofs.Gap.{seg, rightward_yes, rightward_no}
 use Rattle.parity_laws.proofs.Across.{start_on}
 use Rattle.parity_laws.proofs.Corner.{corner}
@@ -30,6 +30,7 @@ use Rattle.parity_laws.proofs.Star.{Least, least, LastBefore, last_before}
 use Rattle.parity_laws.proofs.Shells.{first_left, none_turned}
 use Rattle.parity_laws.proofs.Climbing.{first_at}
 use Rattle.parity_laws.proofs.Splitting.{has_next}
+use Rattle.plane.proofs.Tests.{lt_self, lt_yes, lt_no, yes_lt, no_lt}
 
 -- ---- heights at one x: the height of t there is height x t / width t
 abbrev pub width : Segment → ℤ

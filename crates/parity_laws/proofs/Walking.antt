@@ -1,5 +1,5 @@
 -- Even lists of steps, and what they keep along a way that meets none of them, or begins at a vertex of theirs.
-use Rattle.std.proofs.Common.{◌≡◌, ◌≢◌, refl, sym, ◌∙◌, ap, arith, ℤ, pos, ◌-ℤ◌, ◌*ℤ◌, ◌+ℤ◌, ◌<ℤ◌, ◌≤ℤ◌, ⊎_elim, Bool, true, false, not, ◌&&◌, List, [], ◌∷◌, ◌++◌}
+use Rattle.std.proofs.Common.{◌≡◌, ◌≢◌, refl, sym, ◌∙◌, ap, arith, ℤ, pos, ◌-ℤ◌, ◌*ℤ◌, ◌+ℤ◌, ◌<ℤ◌, ◌≤ℤ◌, ⊎_elim, Bool, true, false, not, ◌&&◌, List, [], ◌∷◌}
 use Rattle.std.specs.Prelude.{int_lt}
 use Rattle.plane.proofs.Ring.{multiplied, signed}
 use Rattle.plane.proofs.Signs.{order, mul_not_negative}
@@ -14,10 +14,11 @@ use Rattle.parity_laws.specs.Steps.{direction, leaves_before, twin, odd, Each, E
 use Rattle.parity_laws.specs.Ways.{Tied, Outside}
 use Rattle.parity_laws.specs.Walks.{steps, Line, all_steps, EndsPair, Chained, NoHigher, NotAt}
 use Rattle.parity_laws.proofs.Sums.{xor_none, xor_self, odd_both, odd_each, odd_append, odd_none, each_map, equal, xor_between}
-use Rattle.parity_laws.proofs.Tests.{same_not, lt_no, yes_lt, no_lt}
+use Rattle.parity_laws.proofs.Tests.{same_not}
 use Rattle.parity_laws.proofs.Gap.{leaves_none}
 use Rattle.parity_laws.proofs.Across.{clear_onward}
 use Rattle.parity_laws.proofs.Corner.{across, corner, clear_turned}
+use Rattle.plane.proofs.Tests.{lt_no, yes_lt, no_lt}
 
 -- ---- what is even
 pub steps_ends : (h : Point → Bool) (v : Point) (ws : List Point) → odd (λ t. xor (h t.a) (h t.b)) (steps v ws) ≡ xor (h v) (h (last_of v ws))
@@ -39,9 +40,6 @@ chained_ends h v (t ∷ X) z e =
 -- a ring is even
 pub ring_even : (v : Point) (X : List Segment) → Chained v X v → Even X
 ring_even v X e h = chained_ends h v X v e ∙ xor_self (h v)
-
-pub even_append : (X Y : List Segment) → Even X → Even Y → Even (X ++ Y)
-even_append X Y e f h = odd_append (λ t. xor (h t.a) (h t.b)) X Y ∙ cc (e h, f h)
 
 -- ---- along a way that meets no step
 path_right : (s : Segment) (X : List Segment) → Even X → Each (λ t. AreApart t s) X → s.a.x ≤ℤ s.b.x → above X s.a ≡ above X s.b

@@ -84,21 +84,20 @@ no_vertex T d m h t i = (λ e. start e (alone T d m h t i (subst (λ p. IsOn (ra
     end e g = ⊎_elim (λ (f : t ≡ d). h.inner.not_end (sym e ∙ ap (λ (s : Segment). s.b) f)) (λ (f : t ≡ back d). h.inner.not_start (sym e ∙ ap (λ (s : Segment). s.b) f)) g
 
 -- ---- a step of T and its parts
-pub begin_start : (d : Segment) (m : Point) (t : Segment) → (begin_of d m t).a ≡ t.a
-begin_start d m t = by_tests (exact d t) (exact (back d) t) (λ e. ap (λ (s : Segment). s.a) (exact_is d t e)) (λ e. ap (λ (s : Segment). s.a) (exact_is (back d) t e))
+-- what is chosen for t: for d, for d walked back, or t itself
+pub chosen_for : (P : Segment → Type 0) (d x y t : Segment) → (d ≡ t → P x) → (back d ≡ t → P y) → P t → P (cond (exact d t) x (cond (exact (back d) t) y t))
+chosen_for P d x y t first second other = by_tests (exact d t) (exact (back d) t) (λ e. first (exact_is d t e)) (λ e. second (exact_is (back d) t e))
   where
-    by_tests : (b c : Bool) → (b ≡ true → d.a ≡ t.a) → (c ≡ true → d.b ≡ t.a) → (cond b (first_part d m) (cond c (first_part (back d) m) t)).a ≡ t.a
+    by_tests : (b c : Bool) → (b ≡ true → P x) → (c ≡ true → P y) → P (cond b x (cond c y t))
     by_tests true c f g = f refl
     by_tests false true f g = g refl
-    by_tests false false f g = refl
+    by_tests false false f g = other
+
+pub begin_start : (d : Segment) (m : Point) (t : Segment) → (begin_of d m t).a ≡ t.a
+begin_start d m t = chosen_for (λ z. z.a ≡ t.a) d (first_part d m) (first_part (back d) m) t (λ e. ap (λ (s : Segment). s.a) e) (λ e. ap (λ (s : Segment). s.a) e) refl
 
 pub end_end : (d : Segment) (m : Point) (t : Segment) → (end_of d m t).b ≡ t.b
-end_end d m t = by_tests (exact d t) (exact (back d) t) (λ e. ap (λ (s : Segment). s.b) (exact_is d t e)) (λ e. ap (λ (s : Segment). s.b) (exact_is (back d) t e))
-  where
-    by_tests : (b c : Bool) → (b ≡ true → d.b ≡ t.b) → (c ≡ true → d.a ≡ t.b) → (cond b (last_part d m) (cond c (last_part (back d) m) t)).b ≡ t.b
-    by_tests true c f g = f refl
-    by_tests false true f g = g refl
-    by_tests false false f g = refl
+end_end d m t = chosen_for (λ z. z.b ≡ t.b) d (last_part d m) (last_part (back d) m) t (λ e. ap (λ (s : Segment). s.b) e) (λ e. ap (λ (s : Segment). s.b) e) refl
 
 -- one step, or two that meet at m
 pub begin_end : (d : Segment) (m : Point) (t : Segment) → (begin_of d m t ≡ end_of d m t) ⊎ (((begin_of d m t).b ≡ m) × ((end_of d m t).a ≡ m))
@@ -215,26 +214,14 @@ pub wholes_of : (T : List Segment) (d : Segment) (m : Point) → IsCut T d m →
 wholes_of T d m h = wholes d m h.inner (h.plain.proper d h.there)
 
 pub whole_begin : (T : List Segment) (d : Segment) (m : Point) → IsCut T d m → (t : Segment) → In t T → whole d m (begin_of d m t) ≡ t
-whole_begin T d m h t i = by_tests (exact d t) (exact (back d) t) (exact_is d t) (exact_is (back d) t)
-  where
-    w : Wholes d m
-    w = wholes_of T d m h
-
-    by_tests : (b c : Bool) → (b ≡ true → d ≡ t) → (c ≡ true → back d ≡ t) → whole d m (cond b (first_part d m) (cond c (first_part (back d) m) t)) ≡ t
-    by_tests true c f g = w.first ∙ f refl
-    by_tests false true f g = w.back_first ∙ g refl
-    by_tests false false f g = w.other t (no_vertex T d m h t i)
+whole_begin T d m h t i =
+    let w = wholes_of T d m h in
+    chosen_for (λ z. whole d m z ≡ t) d (first_part d m) (first_part (back d) m) t (λ e. w.first ∙ e) (λ e. w.back_first ∙ e) (w.other t (no_vertex T d m h t i))
 
 pub whole_end : (T : List Segment) (d : Segment) (m : Point) → IsCut T d m → (t : Segment) → In t T → whole d m (end_of d m t) ≡ t
-whole_end T d m h t i = by_tests (exact d t) (exact (back d) t) (exact_is d t) (exact_is (back d) t)
-  where
-    w : Wholes d m
-    w = wholes_of T d m h
-
-    by_tests : (b c : Bool) → (b ≡ true → d ≡ t) → (c ≡ true → back d ≡ t) → whole d m (cond b (last_part d m) (cond c (last_part (back d) m) t)) ≡ t
-    by_tests true c f g = w.last ∙ f refl
-    by_tests false true f g = w.back_last ∙ g refl
-    by_tests false false f g = w.other t (no_vertex T d m h t i)
+whole_end T d m h t i =
+    let w = wholes_of T d m h in
+    chosen_for (λ z. whole d m z ≡ t) d (last_part d m) (last_part (back d) m) t (λ e. w.last ∙ e) (λ e. w.back_last ∙ e) (w.other t (no_vertex T d m h t i))
 
 pub whole_there : (T : List Segment) (d : Segment) (m : Point) → IsCut T d m → (u : Segment) → In u (cut d m T) → In (whole d m u) T
 whole_there T d m h = part_is (λ u. In (whole d m u) T) d m T (λ t i. subst (λ z. In z T) (sym (whole_begin T d m h t i)) i) (λ t i. subst (λ z. In z T) (sym (whole_end T d m h t i)) i)

@@ -88,6 +88,10 @@ Sided T label = (s : Segment) → In s T → left (those label T) s ≡ label s
 abbrev pub of_face : (Segment → ℕ) → ℕ → Segment → Bool
 of_face F f s = eqb (F s) f
 
+-- by parity v is in the face f: its parity is 1 alone; in face 0 none is
+abbrev pub IsInFace : List Segment → (Segment → ℕ) → ℕ → Point → Type 0
+IsInFace T F f v = (g : ℕ) → g ≢ 0 → above (those (of_face F g) T) v ≡ eqb f g
+
 -- p is one ring: whatever is one for each ring is one on it
 abbrev pub OneRing : List Segment → (Segment → Bool) → Type 0
 OneRing T p = (h : Segment → Bool) → Ringwise T h → (s t : Segment) → In s T → In t T → p s ≡ true → p t ≡ true → h s ≡ h t

@@ -21,7 +21,7 @@ use Rattle.plane.proofs.ListTests.{contains_cases, contains_none}
 use Rattle.edit_changes.specs.Evidence.{AreSides, EdgeMayGo, FacesMayJoin}
 use Rattle.edit_changes.proofs.IdsOrdering.{either_id, joined_id}
 use Rattle.ring_laws.proofs.EdgesGo.{beside}
-use Rattle.ring_laws.proofs.HealedSides.{IsHealed, healed_with}
+use Rattle.ring_laws.proofs.HealedSides.{healed_with}
 use Rattle.ring_laws.proofs.Known.{any_in, any_more, any_out}
 use Rattle.ring_laws.proofs.MergedSides.{AreMerged, none_merged, one_merged, both_merged}
 use Rattle.ring_laws.proofs.SplitSides.{IsSplitInto, split_with}
@@ -29,6 +29,7 @@ use Rattle.reference_laws.proofs.DrawingChanges.{not_one, one_of_two, only_one}
 use Rattle.reference_laws.proofs.Elements.{areal_from, areal_kept, has_same, has_without, is_free, none_as_same, none_in, same_as_none, universe_unlisted}
 use Rattle.reference_laws.proofs.Followed.{each_row, rows_follow}
 use Rattle.reference_laws.proofs.KnownRows.{IsTold, KnowsRows, has_of}
+use Rattle.ring_laws.proofs.Joint.{IsHealed}
 
 -- ---- an edge goes
 -- where a row lists a face that goes, the one that is kept is another than face 0

@@ -15,10 +15,11 @@ use Rattle.edit_changes.proofs.PlainStaying.{has_plain}
 use Rattle.edit_changes.proofs.PlainStays.{can_heal}
 use Rattle.face_rings.proofs.HalfLines.{HasPlainLines}
 use Rattle.ring_laws.proofs.EdgesCut.{changed_there, unchanged_there}
-use Rattle.ring_laws.proofs.HealedSides.{IsHealed, healed_with, healed_joined, healed_known}
+use Rattle.ring_laws.proofs.HealedSides.{healed_with, healed_joined, healed_known}
 use Rattle.ring_laws.proofs.RingedDrawings.{AreRinged, IsBefore}
 use Rattle.ring_laws.proofs.Turning.{joined_of, rings_of}
 use Rattle.ring_laws.proofs.WithoutEdge.{kept_edge}
+use Rattle.ring_laws.proofs.Joint.{IsHealed}
 
 -- ---- the edges with the joined one
 joined_into : (S : Drawing) (n : ℕ) (e f : Edge) (id : ℕ) (fs : List Edge) → EdgesMayBeJoined S e f n → ((x : Edge) → Contains fs x → IsBeside S.edges e f n x ⊎ (joined_edge n e f id ≡ x))

@@ -17,4 +17,5 @@ pub mod Removing
 pub mod MergedSides
 pub mod Alike
 pub mod SplitSides
+pub mod Joint
 pub mod HealedSides

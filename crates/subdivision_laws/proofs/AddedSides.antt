@@ -30,7 +30,7 @@ use Rattle.parity_laws.proofs.Star.{same_start, those_within}
 use Rattle.parity_laws.proofs.Sums.{xor_comm}
 use Rattle.parity_laws.proofs.Tests.{same_is, same_self}
 use Rattle.face_laws.specs.Walked.{steps_of}
-use Rattle.face_laws.specs.Covered.{face_of, IsSided, IsPlaced}
+use Rattle.face_laws.specs.Covered.{face_of, IsSided, IsInFaceOf}
 use Rattle.face_laws.proofs.Covering.{known}
 use Rattle.face_laws.proofs.Following.{has_steps}
 use Rattle.face_laws.proofs.Lists.{in_place}
@@ -214,7 +214,7 @@ above_with_line T L p true line r =
     ∙ odd_both_ways (λ s. crosses s r) (those p T) L (λ s. xor_comm (over (back s) r) (over s r))
 above_with_line T L p false line r = ap (λ X. above X r) (those_front p T (both_ways_of L) (in_each (λ s. p s ≡ false) (both_ways_of L) line))
 
-pub point_stays : (S : Drawing) (a b : NodeRow) (p q : Point) (vs : List Point) (f : ℕ) (r : Point) (c : ℕ) → Adds S a b p q vs f → IsPlaced S r c → IsPlaced (added S a b p q vs f) r c
+pub point_stays : (S : Drawing) (a b : NodeRow) (p q : Point) (vs : List Point) (f : ℕ) (r : Point) (c : ℕ) → Adds S a b p q vs f → IsInFaceOf S r c → IsInFaceOf (added S a b p q vs f) r c
 point_stays S a b p q vs f r c h placed g n =
     ap (λ T. above (those (of_face (face_of (added S a b p q vs f)) g) T) r) (steps_added S a b (p ∷ q ∷ vs) f)
     ∙ above_with_line (steps_of S) (segments_of (p ∷ q ∷ vs)) (of_face (face_of (added S a b p q vs f)) g) (eqb f g) (λ s i. ap (λ k. eqb k g) (line_face S a b p q vs f h s i)) r
@@ -223,14 +223,14 @@ point_stays S a b p q vs f r c h placed g n =
     ∙ placed g n
 
 pub added_placed : (S : Drawing) (a b : NodeRow) (p q : Point) (vs : List Point) (f : ℕ) → Adds S a b p q vs f → (n : NodeRow) (c : ℕ) → Contains (added S a b p q vs f).nodes n → n.containing_face ≡ Some c →
-    IsPlaced (added S a b p q vs f) n.geom c
+    IsInFaceOf (added S a b p q vs f) n.geom c
 added_placed S a b p q vs f h n c i e =
     let k = put_twice None a.node_id b.node_id S.nodes n i in
     ⊎_elim
     (λ (m : (n.containing_face ≡ None) × ((n.node_id ≡ a.node_id) ⊎ (n.node_id ≡ b.node_id))). absurd (no_face (sym m.0 ∙ e)))
     (λ (m : (n ≡ k.row) × (n.node_id ≡ a.node_id → ⊥) × (n.node_id ≡ b.node_id → ⊥)).
     point_stays S a b p q vs f n.geom c h
-    (subst (λ (r : Point). IsPlaced S r c) (ap (λ (x : NodeRow). x.geom) (sym m.0)) (h.before.placed k.row c k.there (ap (λ (x : NodeRow). x.containing_face) (sym m.0) ∙ e))))
+    (subst (λ (r : Point). IsInFaceOf S r c) (ap (λ (x : NodeRow). x.geom) (sym m.0)) (h.before.placed k.row c k.there (ap (λ (x : NodeRow). x.containing_face) (sym m.0) ∙ e))))
     k.is
   where
     no_face : None ≡ Some c → ⊥

@@ -24,28 +24,22 @@ use Rattle.face_laws.specs.Walked.{steps_along, steps_of}
 use Rattle.face_laws.specs.Covered.{face_of, IsCovered}
 use Rattle.face_laws.proofs.FaceOnLeft.{left_is}
 use Rattle.face_laws.proofs.InnerTurns.{AtInner, inner_starts}
-use Rattle.face_laws.proofs.LineSteps.{turned, segments-reverse}
-use Rattle.face_laws.proofs.Lists.{in_either}
+use Rattle.face_laws.proofs.LineSteps.{segments-reverse}
 use Rattle.face_laws.proofs.PlainSteps.{half_with, steps_plain, steps_once}
 use Rattle.face_laws.proofs.RingLabels.{face_ringwise}
 use Rattle.face_laws.proofs.Vertices.{Follows, follows_meet}
 use Rattle.parity_laws.specs.Coming.{walked_back, both_ways_of, with_line, Strung, LineComes, FaceComes}
 use Rattle.parity_laws.proofs.OnLine.{last_step, old_in, way_in}
 use Rattle.parity_laws.proofs.LineCorners.{enters_way}
+use Rattle.parity_laws.proofs.Lists.{in_cases}
 
 -- ---- the steps
-turned_walked : (L : List Segment) → turned L ≡ walked_back L
-turned_walked [] = refl
-turned_walked (s ∷ L) = ap (λ Z. Z ++ back s ∷ []) (turned_walked L)
-
-pub walked_line : (line : List Point) → segments_of (reverse line) ≡ walked_back (segments_of line)
-walked_line line = segments-reverse line ∙ turned_walked (segments_of line)
 
 pub steps_added : (S : Drawing) (a b : NodeRow) (line : List Point) (f : ℕ) → steps_of (with_edge S a b line f) ≡ with_line (steps_of S) (segments_of line)
 steps_added S a b line f =
     ap (flat_map steps_along) (flat_map-append both_ways S.edges (coming S a b line f ∷ []))
     ∙ flat_map-append steps_along (half_edges S) (forward_of (coming S a b line f) ∷ backward_of (coming S a b line f) ∷ [])
-    ∙ ap (λ Z. steps_of S ++ (segments_of line ++ Z)) (append-nil (segments_of (reverse line)) ∙ walked_line line)
+    ∙ ap (λ Z. steps_of S ++ (segments_of line ++ Z)) (append-nil (segments_of (reverse line)) ∙ segments-reverse line)
 
 -- ---- the edge that comes along p, q and vs
 abbrev pub first_of : Point → Point → Segment
@@ -138,8 +132,8 @@ line_face S a b p q vs f h s i =
     ⊎_elim
     (λ (j : In s (segments_of (p ∷ q ∷ vs))). left_is (added S a b p q vs f) (forward_of (edge_of S a b p q vs f)) s (lines_after S a b p q vs f h) (forward_in S a b (p ∷ q ∷ vs) f) j)
     (λ (j : In s (walked_back (segments_of (p ∷ q ∷ vs)))).
-    left_is (added S a b p q vs f) (backward_of (edge_of S a b p q vs f)) s (lines_after S a b p q vs f h) (backward_in S a b (p ∷ q ∷ vs) f) (subst (In s) (sym (walked_line (p ∷ q ∷ vs))) j))
-    (in_either s (segments_of (p ∷ q ∷ vs)) (walked_back (segments_of (p ∷ q ∷ vs))) i)
+    left_is (added S a b p q vs f) (backward_of (edge_of S a b p q vs f)) s (lines_after S a b p q vs f h) (backward_in S a b (p ∷ q ∷ vs) f) (subst (In s) (sym (segments-reverse (p ∷ q ∷ vs))) j))
+    (in_cases s (segments_of (p ∷ q ∷ vs)) (walked_back (segments_of (p ∷ q ∷ vs))) i)
 
 pub rings_after : (S : Drawing) (a b : NodeRow) (p q : Point) (vs : List Point) (f : ℕ) → Adds S a b p q vs f → (g : ℕ) → Ringwise (with_line (steps_of S) (segments_of (p ∷ q ∷ vs))) (of_face (face_of (added S a b p q vs f)) g)
 rings_after S a b p q vs f h g =

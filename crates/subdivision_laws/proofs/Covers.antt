@@ -7,16 +7,13 @@ use Rattle.drawing.specs.Drawing.{Drawing, has_face}
 use Rattle.ring_laws.specs.Ringed.{IsRinged}
 use Rattle.parity_laws.specs.Shelling.{OneShell, NoShell}
 use Rattle.face_laws.specs.Walked.{steps_of}
-use Rattle.face_laws.specs.Covered.{face_of, IsSided, IsPlaced, IsCovered}
+use Rattle.face_laws.specs.Covered.{face_of, IsSided, IsInFaceOf, IsCovered}
 
 pub record Covers (T : Drawing) : Type 0 where
   pub sided : IsSided T
   pub shells : (f : ℕ) → IsTrue (has_face T f) → f ≢ 0 → OneShell (steps_of T) (face_of T) f
   pub outer : NoShell (steps_of T) (face_of T) 0
-  pub placed : (n : NodeRow) (f : ℕ) → Contains T.nodes n → n.containing_face ≡ Some f → IsPlaced T n.geom f
-
-abbrev pub KeepsCovers : Drawing → Drawing → Type 0
-KeepsCovers S T = IsRinged T → Covers T
+  pub placed : (n : NodeRow) (f : ℕ) → Contains T.nodes n → n.containing_face ≡ Some f → IsInFaceOf T n.geom f
 
 pub covered : (T : Drawing) → IsRinged T → Covers T → IsCovered T
 covered T ringed c = record { ringed = ringed; sided = c.sided; shells = c.shells; outer = c.outer; placed = c.placed }

@@ -33,10 +33,11 @@ use Rattle.parity_laws.proofs.Whole.{IsCut, exact, whole, begin_of, end_of, begi
 use Rattle.face_laws.specs.Walked.{steps_along, steps_of}
 use Rattle.face_laws.specs.Covered.{face_of}
 use Rattle.face_laws.proofs.FaceOnLeft.{left_is}
-use Rattle.face_laws.proofs.Lists.{in_contains, in_front, in_behind, in_either}
+use Rattle.face_laws.proofs.Lists.{in_contains}
 use Rattle.face_laws.proofs.PlainSteps.{node_ends, IsStepOf, step_of, steps_plain, steps_once, step_there, half_with}
 use Rattle.face_laws.proofs.RingLabels.{face_ringwise}
 use Rattle.subdivision_laws.proofs.SameSteps.{CarriesOver, StepBetween, turned_between, own_steps, along_halves}
+use Rattle.parity_laws.proofs.Lists.{in_left, in_right, in_cases}
 
 -- ---- a node on a step is an end of it
 node_on_step : (T : Drawing) (n : NodeRow) (u : Segment) → HasPlainLines T → Contains T.nodes n → In u (steps_of T) → IsOn (rational n.geom) u → IsEnd (rational n.geom) u
@@ -129,7 +130,7 @@ inside_segment S e p id id' fs rows ids rings split more d v = record {
     new_plain = steps_plain T more
 
     on_edge : In d (segments_of e.geom)
-    on_edge = subst (In d) (sym v.whole) (in_behind d v.pre (d ∷ v.post) (inl refl))
+    on_edge = subst (In d) (sym v.whole) (in_right d v.pre (d ∷ v.post) (inl refl))
 
     there : In d (steps_of S)
     there = step_there S (forward_of e) d (forward_there S.edges e split.there) on_edge
@@ -153,7 +154,7 @@ inside_segment S e p id id' fs rows ids rings split more d v = record {
     of_two s i = step_there T (forward_of two) s (forward_there fs two split.second) i
 
     front_there : In (segment d.a p) (steps_of T)
-    front_there = of_one (segment d.a p) (subst (In (segment d.a p)) (sym v.first) (in_behind (segment d.a p) v.pre (segment d.a p ∷ []) (inl refl)))
+    front_there = of_one (segment d.a p) (subst (In (segment d.a p)) (sym v.first) (in_right (segment d.a p) v.pre (segment d.a p ∷ []) (inl refl)))
 
     rest_there : In (segment p d.b) (steps_of T)
     rest_there = of_two (segment p d.b) (subst (In (segment p d.b)) (sym v.second) (inl refl))
@@ -164,13 +165,13 @@ inside_segment S e p id id' fs rows ids rings split more d v = record {
         ⊎_elim
         (λ (q : x ≡ e).
         ⊎_elim
-        (λ (k : In s v.pre). inr (of_one s (subst (In s) (sym v.first) (in_front s v.pre (segment d.a p ∷ []) k))))
+        (λ (k : In s v.pre). inr (of_one s (subst (In s) (sym v.first) (in_left s v.pre (segment d.a p ∷ []) k))))
         (λ (k : In s (d ∷ v.post)).
         ⊎_elim
         (λ (q' : s ≡ d). inl q')
         (λ (m : In s v.post). inr (of_two s (subst (In s) (sym v.second) (inr m))))
         k)
-        (in_either s v.pre (d ∷ v.post) (subst (In s) v.whole (subst (λ (y : Edge). In s (segments_of y.geom)) q i))))
+        (in_cases s v.pre (d ∷ v.post) (subst (In s) v.whole (subst (λ (y : Edge). In s (segments_of y.geom)) q i))))
         (λ (far : x.edge_id ≡ e.edge_id → ⊥). inr (step_there T (forward_of x) s (forward_there fs x (split.old x c far)) i))
         (edge_or_not S e x good split.there c)
 
@@ -192,16 +193,16 @@ inside_segment S e p id id' fs rows ids rings split more d v = record {
         subst (λ (y : Edge). (s : Segment) → In s (segments_of y.geom) → StepBetween S s y.left_face y.right_face ⊎ PartBetween S d p s y.left_face y.right_face) is
         (λ s i.
         ⊎_elim
-        (λ (k : In s v.pre). inl (own_steps S e split.there s (subst (In s) (sym v.whole) (in_front s v.pre (d ∷ v.post) k))))
+        (λ (k : In s v.pre). inl (own_steps S e split.there s (subst (In s) (sym v.whole) (in_left s v.pre (d ∷ v.post) k))))
         (λ (k : In s (segment d.a p ∷ [])).
         inr (record { step = d; is = inl refl; part = inl (⊎_elim (λ (q : s ≡ segment d.a p). q) (λ (m : In s []). absurd m) k); between = own_steps S e split.there d on_edge }))
-        (in_either s v.pre (segment d.a p ∷ []) (subst (In s) v.first i))))
+        (in_cases s v.pre (segment d.a p ∷ []) (subst (In s) v.first i))))
         (λ (is : two ≡ x).
         subst (λ (y : Edge). (s : Segment) → In s (segments_of y.geom) → StepBetween S s y.left_face y.right_face ⊎ PartBetween S d p s y.left_face y.right_face) is
         (λ s i.
         ⊎_elim
         (λ (k : s ≡ segment p d.b). inr (record { step = d; is = inl refl; part = inr k; between = own_steps S e split.there d on_edge }))
-        (λ (k : In s v.post). inl (own_steps S e split.there s (subst (In s) (sym v.whole) (in_behind s v.pre (d ∷ v.post) (inr k)))))
+        (λ (k : In s v.post). inl (own_steps S e split.there s (subst (In s) (sym v.whole) (in_right s v.pre (d ∷ v.post) (inr k)))))
         (subst (In s) v.second i)))
         part)
         (split.from x c)

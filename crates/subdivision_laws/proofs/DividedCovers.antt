@@ -18,7 +18,7 @@ use Rattle.parity_laws.proofs.Dividing.{Divides, IsOuterPart, divided_sides, out
 use Rattle.parity_laws.proofs.DividedShells.{each_has_shell, others_keep_none, divided_shells, outer_divided_shells}
 use Rattle.parity_laws.proofs.PointParts.{point_in_first, point_in_second, point_stays}
 use Rattle.face_laws.specs.Walked.{steps_of}
-use Rattle.face_laws.specs.Covered.{face_of, IsPlaced}
+use Rattle.face_laws.specs.Covered.{face_of, IsInFaceOf}
 use Rattle.parity_laws.proofs.RingAt.{rings_there}
 use Rattle.subdivision_laws.proofs.Covers.{Covers}
 use Rattle.subdivision_laws.proofs.AddedSteps.{drawn_of}
@@ -31,7 +31,7 @@ pub record IsDivided (T : Drawing) (e : Edge) (d : Division) (faces : List ℕ) 
   pub lines : HasPlainLines (divided T d faces new)
   pub shells : (g : ℕ) → IsTrue (is_listed faces g) → g ≢ d.left_part → g ≢ d.right_part → g ≢ 0 → (g ≢ d.face) × OneShell (steps_of T) (face_of T) g
   pub outer : d.face ≢ 0 → NoShell (steps_of T) (face_of T) 0
-  pub placed : (n : NodeRow) (f : ℕ) → Contains T.nodes n → n.containing_face ≡ Some f → IsPlaced T n.geom f
+  pub placed : (n : NodeRow) (f : ℕ) → Contains T.nodes n → n.containing_face ≡ Some f → IsInFaceOf T n.geom f
 
 other_face : (o : Option ℕ) (f g : ℕ) → option_eq nat_eq o (Some g) ≡ false → o ≡ Some f → f ≢ g
 other_face None f g e k m = absurd cc
@@ -91,22 +91,22 @@ divided_covers T e d faces new h = record {
     kind : (d.face ≢ 0) ⊎ IsOuterPart (steps_of T) (left_label T e) (start e) d.left_part d.right_part
     kind = ⊎_elim (λ (k : IsInner T e d). inl k.0) (λ (k : IsOuter T e d). inr k.1) h.parted.kind
 
-    placed_after : (r : Point) (c : ℕ) → ((g : ℕ) → g ≢ 0 → above (those (of_face (face_of (divided T d faces new)) g) (steps_of T)) r ≡ eqb c g) → IsPlaced (divided T d faces new) r c
+    placed_after : (r : Point) (c : ℕ) → ((g : ℕ) → g ≢ 0 → above (those (of_face (face_of (divided T d faces new)) g) (steps_of T)) r ≡ eqb c g) → IsInFaceOf (divided T d faces new) r c
     placed_after r c k g n = ap (λ X. above (those (of_face (face_of (divided T d faces new)) g) X) r) (steps_divided T d faces new) ∙ k g n
 
-    in_part : (r : Point) → IsPlaced T r d.face → IsPlaced (divided T d faces new) r (part_at d r)
+    in_part : (r : Point) → IsInFaceOf T r d.face → IsInFaceOf (divided T d faces new) r (part_at d r)
     in_part r k =
-        part_by T e d (λ z. IsPlaced (divided T d faces new) r z) r h.parted
+        part_by T e d (λ z. IsInFaceOf (divided T d faces new) r z) r h.parted
         (λ m. placed_after r d.left_part (point_in_first (steps_of T) (face_of T) (face_of (divided T d faces new)) d.face d.left_part d.right_part (start e) (left_label T e) (right_label T e) r drawn divides sides kind k m))
         (λ m. placed_after r d.right_part (point_in_second (steps_of T) (face_of T) (face_of (divided T d faces new)) d.face d.left_part d.right_part (start e) (left_label T e) (right_label T e) r drawn divides sides kind k m))
 
     of_node : (n : NodeRow) (c : ℕ) (row : NodeRow) → Contains T.nodes row → (t : Bool) → option_eq nat_eq row.containing_face (Some d.face) ≡ t →
-        cond t (record row { containing_face = Some (part_at d row.geom) }) row ≡ n → n.containing_face ≡ Some c → IsPlaced (divided T d faces new) n.geom c
+        cond t (record row { containing_face = Some (part_at d row.geom) }) row ≡ n → n.containing_face ≡ Some c → IsInFaceOf (divided T d faces new) n.geom c
     of_node n c row i true m is k =
-        subst (λ (r : Point). IsPlaced (divided T d faces new) r c) (ap (λ (x : NodeRow). x.geom) is)
-        (subst (IsPlaced (divided T d faces new) row.geom) (some_same (part_at d row.geom) c (ap (λ (x : NodeRow). x.containing_face) is ∙ k)) (in_part row.geom (h.placed row d.face i (same_face row.containing_face d.face m))))
+        subst (λ (r : Point). IsInFaceOf (divided T d faces new) r c) (ap (λ (x : NodeRow). x.geom) is)
+        (subst (IsInFaceOf (divided T d faces new) row.geom) (some_same (part_at d row.geom) c (ap (λ (x : NodeRow). x.containing_face) is ∙ k)) (in_part row.geom (h.placed row d.face i (same_face row.containing_face d.face m))))
     of_node n c row i false m is k =
         let own = ap (λ (x : NodeRow). x.containing_face) is ∙ k in
-        subst (λ (r : Point). IsPlaced (divided T d faces new) r c) (ap (λ (x : NodeRow). x.geom) is)
+        subst (λ (r : Point). IsInFaceOf (divided T d faces new) r c) (ap (λ (x : NodeRow). x.geom) is)
         (placed_after row.geom c
         (point_stays (steps_of T) (face_of T) (face_of (divided T d faces new)) d.face d.left_part d.right_part (start e) (left_label T e) (right_label T e) row.geom c drawn divides sides (other_face row.containing_face c d.face m own) (h.placed row c i own)))

@@ -1,15 +1,14 @@
 -- A divided drawing: its steps are those it had, and each has the face that the parities of the left ring say.
-use Rattle.std.proofs.Common.{◌≡◌, ◌≢◌, ℕ, refl, sym, ◌∙◌, ap, subst, ◌⊎◌, ⊎_elim, Bool, true, false, not, cond, List, [], ◌∷◌, ◌++◌, map, fold, ◌==◌, slice_get, Some}
+use Rattle.std.proofs.Common.{◌≡◌, ◌≢◌, ℕ, refl, sym, ◌∙◌, ap, subst, ◌⊎◌, ⊎_elim, Bool, true, false, not, cond, List, [], ◌∷◌, ◌++◌, map, fold, ◌==◌}
 use Rattle.std.specs.Prelude.{flat_map, reverse}
 use Rattle.std.specs.List.{Contains}
 use Rattle.std.proofs.lemmas.Bool.{both_ways, eqb-true, eqb-false, false_from_ne_true}
-use Rattle.std.proofs.lemmas.Option.{slice_get-get_or}
 use Rattle.topo_base.specs.Point.{Point}
 use Rattle.drawing.specs.AddEdge.{Division, is_on_left, part_at, part_beside, divided_side, divided_edge, divided}
 use Rattle.drawing.specs.Drawing.{Drawing, Edge}
 use Rattle.plane.specs.Parity.{xor}
 use Rattle.drawing.specs.HalfEdge.{HalfEdge, forward_of, backward_of, both_ways as both_halves, half_edges, comes_before}
-use Rattle.plane.specs.Line.{segments_of, first_vertex, no_point}
+use Rattle.plane.specs.Line.{segments_of, first_vertex}
 use Rattle.drawing.specs.Ring.{ring_of, contains_half_edge, earlier_of, least_vertex}
 use Rattle.plane.specs.Segment.{Segment}
 use Rattle.plane.specs.Crossings.{back}
@@ -32,10 +31,9 @@ use Rattle.parity_laws.proofs.Labels.{rings_same}
 use Rattle.face_laws.specs.Walked.{steps_along, steps_of, is_of}
 use Rattle.face_laws.specs.Covered.{face_of, IsSided}
 use Rattle.face_laws.proofs.FaceOnLeft.{left_is, has_one}
-use Rattle.face_laws.proofs.Following.{has_steps}
 use Rattle.face_laws.proofs.Lists.{in_place}
 use Rattle.face_laws.proofs.PlainSteps.{half_with, step_there, step_back}
-use Rattle.face_laws.proofs.RingLabels.{face_ringwise, ring_steps, step_of_ring, own_steps, in_own_ring, first_step}
+use Rattle.face_laws.proofs.RingLabels.{face_ringwise, ring_steps, step_of_ring, own_steps, in_own_ring, first_step, first_there}
 use Rattle.parity_laws.proofs.RingAt.{rings_there}
 use Rattle.face_laws.proofs.RingSums.{ring_over}
 use Rattle.face_laws.proofs.ShellTests.{shell_is, ring_of_label}
@@ -72,11 +70,8 @@ pub record IsParted (T : Drawing) (e : Edge) (d : Division) : Type 0 where
   pub new_right : (d.right_part ≡ d.face) ⊎ ((t : Segment) → In t (steps_of T) → face_of T t ≢ d.right_part)
   pub kind : IsInner T e d ⊎ IsOuter T e d
 
-first_place : (T : Drawing) (h : HalfEdge) → HasPlainLines T → Contains (half_edges T) h → slice_get (segments_of h.points) 0 ≡ Some (first_step h)
-first_place T h good c = slice_get-get_or (segments_of h.points) 0 (record { a = no_point; b = no_point }) (has_steps T h good c)
-
 pub start_on : (T : Drawing) (h : HalfEdge) → HasPlainLines T → Contains (half_edges T) h → In (first_step h) (steps_along h)
-start_on T h good c = in_place (first_step h) (segments_of h.points) 0 (first_place T h good c)
+start_on T h good c = in_place (first_step h) (segments_of h.points) 0 (first_there T h good c)
 
 pub good_of : (T : Drawing) (e : Edge) (d : Division) → IsParted T e d → HasPlainLines T
 good_of T e d h = has_plain_lines T h.before.rings
@@ -254,7 +249,7 @@ face_parted T e d faces new h good t i = of_half (half_with T t i)
 
             of_least : (m : HalfEdge) × (Contains (ring_of (half_edges T) k) m × (least_vertex (ring_of (half_edges T) k) ≡ first_vertex m.points)) → part_at d (least_vertex (ring_of (half_edges T) k)) ≡ Parted T e d t
             of_least (m, (w, vertex)) =
-                subst (λ v. part_at d v ≡ Parted T e d t) (sym (vertex ∙ first_begins m.points (first_step m) (first_place T m (good_of T e d h) there)))
+                subst (λ v. part_at d v ≡ Parted T e d t) (sym (vertex ∙ first_begins m.points (first_step m) (first_there T m (good_of T e d h) there)))
                 (part_by T e d (λ z. z ≡ Parted T e d t) (first_step m).a h
                 (λ g. sym (ring_in_first (steps_of T) (face_of T) (Parted T e d) d.face d.left_part d.right_part (start e) (left_label T e) (right_label T e) (is_of (ring_of (half_edges T) k)) (first_step m) drawn
                 (rings_there (steps_of T) drawn) divides once.0 once.1 at_least off off_back g t i own))

@@ -1,75 +1,82 @@
 -- An added edge: it closes no ring, or divides the face in which it lies.
-use Rattle.std.proofs.Common.{◌≡◌, ◌≤◌, refl, sym, ap, arith, Bool, true, false, not, cond, ◌&&◌, ◌||◌, ◌==◌, List, [], ◌∷◌, length, filter, Option, Some, None, IsTrue, unwrap_or}
-use Rattle.std.specs.List.{Contains}
-use Rattle.std.proofs.lemmas.Bool.{and_parts, eqb-true, eqb-false, false≢true, not-true}
+use Rattle.std.proofs.Common.{◌≡◌, ◌≢◌, ◌≤◌, ℕ, true, sym, ◌∙◌, ap, subst, arith, not, ◌==◌, List, [], ◌∷◌, ◌++◌, ◌+◌, length, filter, unwrap_or}
+use Rattle.std.proofs.lemmas.Bool.{and_parts}
 use Rattle.topo_base.specs.Point.{Point, same_point}
 use Rattle.topo_base.specs.declared.rows.NodeRow.{NodeRow}
-use Rattle.topo_base.specs.declared.rule.Rule.TheVariants.{LineEnds, LineNotSimple, LineBlocked}
-use Rattle.drawing.specs.AddEdge.{face_at_start, face_at_end}
-use Rattle.drawing.specs.Edits.{add_edge}
-use Rattle.drawing.specs.Blocked.{is_line_blocked, goes_between}
+use Rattle.drawing.specs.AddEdge.{Division, divided, one_new, two_new}
 use Rattle.plane.specs.Direction.{first_direction}
-use Rattle.drawing.specs.Drawing.{Drawing}
+use Rattle.drawing.specs.Drawing.{Drawing, has_face}
 use Rattle.drawing.specs.Faces.{face_after}
-use Rattle.drawing.specs.HalfEdge.{forward_of, backward_of, half_edges, leaves}
-use Rattle.plane.specs.Line.{is_simple, last_vertex}
-use Rattle.drawing.specs.Apply.{Decision, carried_out}
-use Rattle.drawing.specs.PlainInOrder.{IsPlainInOrder}
-use Rattle.drawing.specs.Ring.{ring_of, contains_half_edge}
+use Rattle.drawing.specs.HalfEdge.{half_edges, leaves}
+use Rattle.drawing.specs.IsoEdits.{with_edge}
+use Rattle.plane.specs.Line.{last_vertex}
 use Rattle.drawing.specs.Star.{last_clockwise}
-use Rattle.drawing.specs.Subdivision.{face_id_of, rows_in_order}
-use Rattle.drawing.proofs.Keeping.{Keeps, accepted, refused, refuses_else}
-use Rattle.drawing.proofs.PlainParts.{parts_of, plain_of}
-use Rattle.edit_changes.proofs.PlainStaying.{HasPlain, edge_more, passed}
+use Rattle.drawing.proofs.PlainParts.{plain_of}
+use Rattle.edit_changes.specs.Evidence.{EdgeMayCome, OpenEdgeMayCome, FaceMayBeDivided, left_ring, right_ring}
+use Rattle.edit_changes.proofs.PlainStaying.{edge_more, has_plain}
+use Rattle.ring_laws.specs.Ringed.{IsRinged}
 use Rattle.ring_laws.proofs.Known.{wedge_listed}
 use Rattle.ring_laws.proofs.RingsStaying.{rings_stay}
 use Rattle.parity_laws.proofs.Tests.{same_is}
 use Rattle.face_laws.specs.Covered.{IsCovered}
 use Rattle.face_laws.proofs.Covering.{known}
-use Rattle.subdivision_laws.proofs.Covers.{KeepsCovers}
-use Rattle.subdivision_laws.proofs.AddedSteps.{added, edge_of, Adds}
+use Rattle.subdivision_laws.proofs.Covers.{Covers}
+use Rattle.subdivision_laws.proofs.AddedSteps.{added, Adds}
 use Rattle.subdivision_laws.proofs.AddedShells.{open_covers}
-use Rattle.subdivision_laws.proofs.RingAdded.{AddsRing, faces_below, two_parts, one_part}
+use Rattle.subdivision_laws.proofs.RingAdded.{AddsRing, FacesBelow, two_parts, one_part}
 
--- as has_plain, either_is and or_falses in ring_laws/proofs/RingsStaying
-has_plain : (S : Drawing) → IsPlainInOrder S → HasPlain S
-has_plain S h = record { parts = parts_of S h.plain; ids = record { test = h.node_ids }; edge_ids = record { test = h.edge_ids } }
-
-pub either_is : (P : Drawing → Drawing → Type 0) (S : Drawing) (b : Bool) (c d : Decision) → (b ≡ true → Keeps P S (carried_out S c)) → (b ≡ false → Keeps P S (carried_out S d)) → Keeps P S (carried_out S (cond b c d))
-either_is P S true x y h k = h refl
-either_is P S false x y h k = k refl
-
-or_falses : (b c : Bool) → (b || c) ≡ false → (b ≡ false) × (c ≡ false)
-or_falses true c h = absurd (false≢true (sym h))
-or_falses false c h = (refl, h)
-
-pub new_edge : (both : Bool) (S : Drawing) (a b : Option NodeRow) (line : List Point) → IsCovered S → IsTrue (rows_in_order face_id_of 0 S.next_ids.face S.faces) → 2 ≤ length line →
-    ((n : NodeRow) → a ≡ Some n → Contains S.nodes n) → ((n : NodeRow) → b ≡ Some n → Contains S.nodes n) → Keeps KeepsCovers S (add_edge both S a b line)
-new_edge both S None b line c order long ca cb = refused KeepsCovers S _
-new_edge both S (Some a) None line c order long ca cb = refused KeepsCovers S _
-new_edge both S (Some a) (Some b) [] c order long ca cb = absurd (omega (arith, long))
-new_edge both S (Some a) (Some b) (p ∷ []) c order long ca cb = absurd (omega (arith, long))
-new_edge both S (Some a) (Some b) (p ∷ q ∷ vs) c order long ca cb =
-    let f = face_at_start S a (p ∷ q ∷ vs) in
-    refuses_else KeepsCovers S (not (goes_between a b (p ∷ q ∷ vs))) LineEnds _ (λ ends.
-    refuses_else KeepsCovers S (not (is_simple (p ∷ q ∷ vs))) LineNotSimple _ (λ simple.
-    refuses_else KeepsCovers S (is_line_blocked S (p ∷ q ∷ vs) || not (face_at_end S b (p ∷ q ∷ vs) == f)) LineBlocked _ (λ free.
-    let falses = or_falses (is_line_blocked S (p ∷ q ∷ vs)) (not (face_at_end S b (p ∷ q ∷ vs) == f)) free in
-    let between = passed (goes_between a b (p ∷ q ∷ vs)) ends in
-    let plain = edge_more S a b (p ∷ q ∷ vs) f (has_plain S c.ringed.rings.plain) (ca a refl) (cb b refl) between (passed (is_simple (p ∷ q ∷ vs)) simple) falses.0 in
-    let ringed = rings_stay.added S a b (p ∷ q ∷ vs) f c.ringed (ca a refl) (cb b refl) (plain_of (added S a b p q vs f) plain.parts) long
-    (refl, eqb-true (face_at_end S b (p ∷ q ∷ vs)) f (passed (face_at_end S b (p ∷ q ∷ vs) == f) falses.1)) in
-    let adds : Adds S a b p q vs f = record {
+-- the drawing with the edge, where it doesn't divide its face yet
+adds : (S : Drawing) (a b : NodeRow) (p q : Point) (vs : List Point) (f : ℕ) → IsCovered S → 2 ≤ length (p ∷ q ∷ vs) → EdgeMayCome S a b (p ∷ q ∷ vs) f → Adds S a b p q vs f
+adds S a b p q vs f c long k =
+    let plain = edge_more S a b (p ∷ q ∷ vs) f (has_plain S c.ringed.rings.plain) k.start_there k.end_there k.ends k.simple k.free in
+    record {
       before = c;
-      after = ringed;
-      node = ca a refl;
-      begins = same_is p a.geom (and_parts (same_point p a.geom) (same_point (last_vertex (p ∷ q ∷ vs)) b.geom) between).0;
-      face = λ k e. sym (ap (λ o. unwrap_or o (face_after (last_clockwise (first_direction (p ∷ q ∷ vs)) (filter (leaves a.node_id) (half_edges S))))) e);
-    } in
-    either_is KeepsCovers S (contains_half_edge (ring_of (half_edges (added S a b p q vs f)) (forward_of (edge_of S a b p q vs f))) (backward_of (edge_of S a b p q vs f))) _ _
-    (λ joined. accepted KeepsCovers S _ (λ _. open_covers S a b p q vs f adds joined))
-    (λ cut.
-    let ring : AddsRing S a b p q vs f = record { adds = adds; cut = cut; listed = wedge_listed S a (first_direction (p ∷ q ∷ vs)) (known S c.ringed) (ca a refl); below = faces_below S order } in
-    either_is KeepsCovers S (both && not (f == 0)) _ _
-    (λ two. accepted KeepsCovers S _ (two_parts S a b p q vs f ring (eqb-false f 0 (not-true (f == 0) (and_parts both (not (f == 0)) two).1))))
-    (λ one. accepted KeepsCovers S _ (one_part S a b p q vs f ring))))))
+      after = rings_stay.added S a b (p ∷ q ∷ vs) f c.ringed k.start_there k.end_there (plain_of (added S a b p q vs f) plain.parts) long (k.starts_in, k.ends_in);
+      node = k.start_there;
+      begins = same_is p a.geom (and_parts (same_point p a.geom) (same_point (last_vertex (p ∷ q ∷ vs)) b.geom) k.ends).0;
+      face = λ g e. sym (ap (λ o. unwrap_or o (face_after (last_clockwise (first_direction (p ∷ q ∷ vs)) (filter (leaves a.node_id) (half_edges S))))) e) ∙ k.starts_in;
+    }
+
+pub edge_comes : (S : Drawing) (a b : NodeRow) (line : List Point) (f : ℕ) → OpenEdgeMayCome S a b line f → 2 ≤ length line → IsCovered S → Covers (with_edge S a b line f)
+edge_comes S a b [] f k long c = absurd (omega (arith, long))
+edge_comes S a b (p ∷ []) f k long c = absurd (omega (arith, long))
+edge_comes S a b (p ∷ q ∷ vs) f k long c = open_covers S a b p q vs f (adds S a b p q vs f c long k.edge) k.joined
+
+-- ---- the edge closes a ring
+adds_ring : (S : Drawing) (a b : NodeRow) (p q : Point) (vs : List Point) (f : ℕ) → FaceMayBeDivided S a b (p ∷ q ∷ vs) f → 2 ≤ length (p ∷ q ∷ vs) → FacesBelow S → IsCovered S → AddsRing S a b p q vs f
+adds_ring S a b p q vs f k long below c = record {
+  adds = adds S a b p q vs f c long k.edge;
+  cut = k.cut;
+  listed = subst (λ g. has_face S g ≡ true) k.edge.starts_in (wedge_listed S a (first_direction (p ∷ q ∷ vs)) (known S c.ringed) k.edge.start_there);
+  below = below;
+}
+
+-- the drawing once its face is divided so
+abbrev divided_once : Drawing → NodeRow → NodeRow → List Point → ℕ → Division → Drawing
+divided_once S a b line f d = divided (with_edge S a b line f) d (S.faces ++ S.next_ids.face ∷ []) 1
+
+abbrev divided_twice : Drawing → NodeRow → NodeRow → List Point → ℕ → Division → Drawing
+divided_twice S a b line f d = divided (with_edge S a b line f) d (filter (λ g. not (g == f)) S.faces ++ S.next_ids.face ∷ (S.next_ids.face + 1) ∷ []) 2
+
+once : (S : Drawing) (a b : NodeRow) (line : List Point) (f : ℕ) → FaceMayBeDivided S a b line f → 2 ≤ length line → FacesBelow S → IsCovered S
+    → (d : Division) → one_new (with_edge S a b line f) f (left_ring S a b line f) (right_ring S a b line f) ≡ d → IsRinged (divided_once S a b line f d) → Covers (divided_once S a b line f d)
+once S a b [] f k long below c d is = absurd (omega (arith, long))
+once S a b (p ∷ []) f k long below c d is = absurd (omega (arith, long))
+once S a b (p ∷ q ∷ vs) f k long below c d is =
+    subst (λ x. IsRinged (divided_once S a b (p ∷ q ∷ vs) f x) → Covers (divided_once S a b (p ∷ q ∷ vs) f x)) is (one_part S a b p q vs f (adds_ring S a b p q vs f k long below c))
+
+twice : (S : Drawing) (a b : NodeRow) (line : List Point) (f : ℕ) → FaceMayBeDivided S a b line f → f ≢ 0 → 2 ≤ length line → FacesBelow S → IsCovered S
+    → (d : Division) → two_new (with_edge S a b line f) f (left_ring S a b line f) (right_ring S a b line f) ≡ d → IsRinged (divided_twice S a b line f d) → Covers (divided_twice S a b line f d)
+twice S a b [] f k some long below c d is = absurd (omega (arith, long))
+twice S a b (p ∷ []) f k some long below c d is = absurd (omega (arith, long))
+twice S a b (p ∷ q ∷ vs) f k some long below c d is =
+    subst (λ x. IsRinged (divided_twice S a b (p ∷ q ∷ vs) f x) → Covers (divided_twice S a b (p ∷ q ∷ vs) f x)) is (two_parts S a b p q vs f (adds_ring S a b p q vs f k long below c) some)
+
+pub face_is_divided : (S : Drawing) (a b : NodeRow) (line : List Point) (d : Division) → FaceMayBeDivided S a b line d.face → d ≡ one_new (with_edge S a b line d.face) d.face (left_ring S a b line d.face) (right_ring S a b line d.face)
+    → 2 ≤ length line → FacesBelow S → IsCovered S → IsRinged (divided_once S a b line d.face d) → Covers (divided_once S a b line d.face d)
+face_is_divided S a b line d k is long below c = once S a b line d.face k long below c d (sym is)
+
+pub face_is_divided_anew : (S : Drawing) (a b : NodeRow) (line : List Point) (d : Division) → FaceMayBeDivided S a b line d.face → d.face ≢ 0
+    → d ≡ two_new (with_edge S a b line d.face) d.face (left_ring S a b line d.face) (right_ring S a b line d.face)
+    → 2 ≤ length line → FacesBelow S → IsCovered S → IsRinged (divided_twice S a b line d.face d) → Covers (divided_twice S a b line d.face d)
+face_is_divided_anew S a b line d k some is long below c = twice S a b line d.face k some long below c d (sym is)

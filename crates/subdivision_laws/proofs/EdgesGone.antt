@@ -1,26 +1,23 @@
 -- Edges that go: the faces on the two sides become one.
-use Rattle.std.proofs.Common.{◌≡◌, ◌≢◌, ℕ, ◌+◌, refl, sym, ◌∙◌, ap, subst, arith, ◌⊎◌, inl, inr, ⊎_elim, Bool, true, false, not, cond, ◌&&◌, ◌||◌, ◌==◌, List, [], ◌∷◌, ◌++◌, Option, Some, None, IsTrue}
+use Rattle.std.proofs.Common.{◌≡◌, ◌≢◌, ℕ, ◌+◌, refl, sym, ◌∙◌, ap, subst, arith, ◌⊎◌, inl, inr, ⊎_elim, Bool, true, false, not, cond, ◌||◌, ◌==◌, List, [], ◌∷◌, ◌++◌}
 use Rattle.std.specs.List.{Contains}
-use Rattle.std.proofs.lemmas.Bool.{both_ways, eqb-true, eq-eqb, eqb-false, not-true, false_from_ne_true}
+use Rattle.std.proofs.lemmas.Bool.{both_ways, eqb-true, eq-eqb, not-true, false_from_ne_true}
 use Rattle.std.proofs.lemmas.List.Elements.{Contains-push_cases}
-use Rattle.topo_base.specs.declared.rule.Rule.TheVariants.{EdgeInFeature, FaceInFeature}
 use Rattle.drawing.specs.Drawing.{Drawing, Edge, has_face}
-use Rattle.drawing.specs.IsoEdits.{is_in_feature}
-use Rattle.drawing.specs.Relations.{edge_type, face_type, is_among}
-use Rattle.drawing.specs.RemoveEdge.{renamed, without_faces, have_same_features}
-use Rattle.drawing.specs.Edits.{merged, remove_edge}
-use Rattle.drawing.specs.Subdivision.{face_id_of, rows_in_order}
-use Rattle.drawing.proofs.Keeping.{Keeps, accepted, refused, refuses_else}
+use Rattle.drawing.specs.Relations.{is_among}
+use Rattle.drawing.specs.RemoveEdge.{renamed, without_faces}
+use Rattle.edit_changes.specs.Evidence.{EdgeMayGo, FacesMayJoin, AreSides}
 use Rattle.drawing.proofs.Members.{contains-filtered}
+use Rattle.ring_laws.specs.Ringed.{IsRinged}
 use Rattle.ring_laws.proofs.Known.{any_in, any_out}
 use Rattle.ring_laws.proofs.KnownStays.{is_listed}
 use Rattle.ring_laws.proofs.MergedSides.{merged_with}
 use Rattle.parity_laws.proofs.JoinedFaces.{JoinedNumber}
+use Rattle.parity_laws.proofs.JoinedShells.{OuterJoins}
 use Rattle.face_laws.specs.Covered.{IsCovered}
 use Rattle.face_laws.proofs.Covering.{known}
-use Rattle.subdivision_laws.proofs.Covers.{KeepsCovers}
-use Rattle.subdivision_laws.proofs.RingAdded.{faces_below}
-use Rattle.subdivision_laws.proofs.EdgesAdded.{either_is}
+use Rattle.subdivision_laws.proofs.Covers.{Covers}
+use Rattle.subdivision_laws.proofs.RingAdded.{FacesBelow}
 use Rattle.subdivision_laws.proofs.GoneFaces.{IsFaceOf, two_settled, one_settled}
 use Rattle.subdivision_laws.proofs.MergedGone.{merged_covers}
 
@@ -92,76 +89,71 @@ face_left_anew S gone new g is n =
     (λ (p : new ≡ x). absurd (n (sym (p ∙ eqb-true x g t))))
     (Contains-push_cases (without_faces S gone) new x c)
 
--- ---- outcomes
-one_stays : (S : Drawing) (e : Edge) → IsCovered S → Contains S.edges e → e.left_face ≡ e.right_face → KeepsCovers S (merged_with S e [] e.left_face S.faces S.next_ids)
-one_stays S e c ce same = merged_covers S e [] e.left_face S.faces S.next_ids c ce (λ first rest h.
+-- ---- the drawings after it
+abbrev faces_joined : Drawing → Edge → ℕ → ℕ → Drawing
+faces_joined S e kept goes = merged_with S e (goes ∷ []) kept (without_faces S (goes ∷ [])) S.next_ids
+
+abbrev faces_joined_anew : Drawing → Edge → Drawing
+faces_joined_anew S e =
+    let gone = e.left_face ∷ e.right_face ∷ [] in
+    merged_with S e gone S.next_ids.face (without_faces S gone ++ S.next_ids.face ∷ []) (record (S.next_ids) { face = S.next_ids.face + 1 })
+
+-- one face was on both sides
+pub edge_goes : (S : Drawing) (e : Edge) → EdgeMayGo S e → e.left_face ≡ e.right_face → IsCovered S → IsRinged (merged_with S e [] e.left_face S.faces S.next_ids) → Covers (merged_with S e [] e.left_face S.faces S.next_ids)
+edge_goes S e k same c = merged_covers S e [] e.left_face S.faces S.next_ids c k.there (λ first rest h.
     one_settled S (merged_with S e [] e.left_face S.faces S.next_ids) e first rest (renamed [] e.left_face) (record { takes = h; one = same; stay = λ m. refl; listed = λ g is. is }))
 
-into_zero_left : (S : Drawing) (e : Edge) → IsCovered S → Contains S.edges e → e.left_face ≢ e.right_face → e.left_face ≡ 0 → KeepsCovers S (merged_with S e (e.right_face ∷ []) 0 (without_faces S (e.right_face ∷ [])) S.next_ids)
-into_zero_left S e c ce differ zero = merged_covers S e (e.right_face ∷ []) 0 (without_faces S (e.right_face ∷ [])) S.next_ids c ce (λ first rest h.
-    two_settled S (merged_with S e (e.right_face ∷ []) 0 (without_faces S (e.right_face ∷ [])) S.next_ids) e first rest (renamed (e.right_face ∷ []) 0) 0 (record {
+-- of the two faces one is kept
+record IsKept (l r kept goes : ℕ) : Type 0 where
+  sides : (m : ℕ) → (m ≡ l) ⊎ (m ≡ r) → (m ≡ goes) ⊎ (m ≡ kept)
+  goes_off : (m : ℕ) → m ≢ l → m ≢ r → m ≢ goes
+  one : (kept ≡ l) ⊎ (kept ≡ r)
+  outer : OuterJoins l r kept
+  off : (g : ℕ) → g ≢ goes → g ≢ kept → (g ≢ l) × (g ≢ r)
+
+kept_is : (e : Edge) (kept goes : ℕ) → AreSides e kept goes → goes ≢ 0 → IsKept e.left_face e.right_face kept goes
+kept_is e kept goes (inl s) some = record {
+  sides = λ m at. ⊎_elim (λ (p : m ≡ e.left_face). inr (p ∙ sym s.0)) (λ (p : m ≡ e.right_face). inl (p ∙ sym s.1)) at;
+  goes_off = λ m nl nr q. nr (q ∙ s.1);
+  one = inl s.0;
+  outer = record { outer = λ q. inl (sym s.0 ∙ q); inner = λ n. ((λ q. n (s.0 ∙ q)), (λ q. some (s.1 ∙ q))) };
+  off = λ g ng nk. ((λ q. nk (q ∙ sym s.0)), (λ q. ng (q ∙ sym s.1)));
+}
+kept_is e kept goes (inr s) some = record {
+  sides = λ m at. ⊎_elim (λ (p : m ≡ e.left_face). inl (p ∙ sym s.1)) (λ (p : m ≡ e.right_face). inr (p ∙ sym s.0)) at;
+  goes_off = λ m nl nr q. nl (q ∙ s.1);
+  one = inr s.0;
+  outer = record { outer = λ q. inr (sym s.0 ∙ q); inner = λ n. ((λ q. some (s.1 ∙ q)), (λ q. n (s.0 ∙ q))) };
+  off = λ g ng nk. ((λ q. ng (q ∙ sym s.1)), (λ q. nk (q ∙ sym s.0)));
+}
+
+pub faces_join : (S : Drawing) (e : Edge) (kept goes : ℕ) → FacesMayJoin S e → AreSides e kept goes → goes ≢ 0 → IsCovered S → IsRinged (faces_joined S e kept goes) → Covers (faces_joined S e kept goes)
+faces_join S e kept goes k sides some c =
+    let s = kept_is e kept goes sides some in
+    merged_covers S e (goes ∷ []) kept (without_faces S (goes ∷ [])) S.next_ids c k.edge.there (λ first rest h.
+    two_settled S (faces_joined S e kept goes) e first rest (renamed (goes ∷ []) kept) kept (record {
       takes = h;
-      differ = differ;
-      numbers = λ m _. one_number e.left_face e.right_face e.right_face 0 m (λ at. ⊎_elim (λ (p : m ≡ e.left_face). inr (p ∙ zero)) (λ (p : m ≡ e.right_face). inl p) at) (λ nl nr. nr) (inl (sym zero));
-      outer = record { outer = λ _. inl zero; inner = λ n. absurd (n refl) };
-      others = λ g is n. let f = face_left S (e.right_face ∷ []) g is in (f.0, (λ q. n (q ∙ zero)), off_one g e.right_face f.1);
+      differ = k.differ;
+      numbers = λ m _. one_number e.left_face e.right_face goes kept m (s.sides m) (s.goes_off m) s.one;
+      outer = s.outer;
+      others = λ g is n. let f = face_left S (goes ∷ []) g is in let off = s.off g (off_one g goes f.1) n in (f.0, off.0, off.1);
     }))
 
-into_zero_right : (S : Drawing) (e : Edge) → IsCovered S → Contains S.edges e → e.left_face ≢ e.right_face → e.right_face ≡ 0 → KeepsCovers S (merged_with S e (e.left_face ∷ []) 0 (without_faces S (e.left_face ∷ [])) S.next_ids)
-into_zero_right S e c ce differ zero = merged_covers S e (e.left_face ∷ []) 0 (without_faces S (e.left_face ∷ [])) S.next_ids c ce (λ first rest h.
-    two_settled S (merged_with S e (e.left_face ∷ []) 0 (without_faces S (e.left_face ∷ [])) S.next_ids) e first rest (renamed (e.left_face ∷ []) 0) 0 (record {
+pub faces_join_anew : (S : Drawing) (e : Edge) → FacesMayJoin S e → e.left_face ≢ 0 → e.right_face ≢ 0 → FacesBelow S → IsCovered S → IsRinged (faces_joined_anew S e) → Covers (faces_joined_anew S e)
+faces_join_anew S e k some other below c =
+    let gone = e.left_face ∷ e.right_face ∷ [] in
+    let new = S.next_ids.face in
+    merged_covers S e gone new (without_faces S gone ++ new ∷ []) (record (S.next_ids) { face = new + 1 }) c k.edge.there (λ first rest h.
+    two_settled S (faces_joined_anew S e) e first rest (renamed gone new) new (record {
       takes = h;
-      differ = differ;
-      numbers = λ m _. one_number e.left_face e.right_face e.left_face 0 m (λ at. ⊎_elim (λ (p : m ≡ e.left_face). inl p) (λ (p : m ≡ e.right_face). inr (p ∙ zero)) at) (λ nl nr. nl) (inr (sym zero));
-      outer = record { outer = λ _. inr zero; inner = λ n. absurd (n refl) };
-      others = λ g is n. let f = face_left S (e.left_face ∷ []) g is in (f.0, off_one g e.left_face f.1, (λ q. n (q ∙ zero)));
-    }))
-
-into_right : (S : Drawing) (e : Edge) → IsCovered S → Contains S.edges e → e.left_face ≢ e.right_face → e.left_face ≢ 0 → KeepsCovers S (merged_with S e (e.left_face ∷ []) e.right_face (without_faces S (e.left_face ∷ [])) S.next_ids)
-into_right S e c ce differ some = merged_covers S e (e.left_face ∷ []) e.right_face (without_faces S (e.left_face ∷ [])) S.next_ids c ce (λ first rest h.
-    two_settled S (merged_with S e (e.left_face ∷ []) e.right_face (without_faces S (e.left_face ∷ [])) S.next_ids) e first rest (renamed (e.left_face ∷ []) e.right_face) e.right_face (record {
-      takes = h;
-      differ = differ;
-      numbers = λ m _. one_number e.left_face e.right_face e.left_face e.right_face m (λ at. at) (λ nl nr. nl) (inr refl);
-      outer = record { outer = λ q. inr q; inner = λ n. (some, n) };
-      others = λ g is n. let f = face_left S (e.left_face ∷ []) g is in (f.0, off_one g e.left_face f.1, n);
-    }))
-
-anew_of : (S : Drawing) (e : Edge) → IsCovered S → IsTrue (rows_in_order face_id_of 0 S.next_ids.face S.faces) → Contains S.edges e → e.left_face ≢ e.right_face → e.left_face ≢ 0 → e.right_face ≢ 0 →
-    KeepsCovers S (merged_with S e (e.left_face ∷ e.right_face ∷ []) S.next_ids.face (without_faces S (e.left_face ∷ e.right_face ∷ []) ++ S.next_ids.face ∷ []) (record (S.next_ids) { face = S.next_ids.face + 1 }))
-anew_of S e c order ce differ some other = merged_covers S e (e.left_face ∷ e.right_face ∷ []) S.next_ids.face (without_faces S (e.left_face ∷ e.right_face ∷ []) ++ S.next_ids.face ∷ []) (record (S.next_ids) { face = S.next_ids.face + 1 }) c ce
-    (λ first rest h.
-    two_settled S (merged_with S e (e.left_face ∷ e.right_face ∷ []) S.next_ids.face (without_faces S (e.left_face ∷ e.right_face ∷ []) ++ S.next_ids.face ∷ []) (record (S.next_ids) { face = S.next_ids.face + 1 }))
-    e first rest (renamed (e.left_face ∷ e.right_face ∷ []) S.next_ids.face) S.next_ids.face (record {
-      takes = h;
-      differ = differ;
-      numbers = λ m is. two_number e.left_face e.right_face S.next_ids.face m (less m is);
+      differ = k.differ;
+      numbers = λ m is. two_number e.left_face e.right_face new m (less m is);
       outer = record { outer = λ q. absurd (less 0 (known S c.ringed).universe (sym q)); inner = λ n. (some, other) };
       others = λ g is n.
-          let f = face_left S (e.left_face ∷ e.right_face ∷ []) g (face_left_anew S (e.left_face ∷ e.right_face ∷ []) S.next_ids.face g is n) in
+          let f = face_left S gone g (face_left_anew S gone new g is n) in
           let off = off_both g e.left_face e.right_face f.1 in
           (f.0, off.0, off.1);
     }))
   where
     less : (m : ℕ) → IsFaceOf S m → m ≢ S.next_ids.face
-    less m is q = let k = faces_below S order m is in omega (arith, k, q)
-
--- ---- both edits
-merges : (anew : Bool) (S : Drawing) (e : Edge) → IsCovered S → IsTrue (rows_in_order face_id_of 0 S.next_ids.face S.faces) → Contains S.edges e → Keeps KeepsCovers S (merged anew S e)
-merges anew S e c order ce =
-    either_is KeepsCovers S (e.left_face == e.right_face) _ _
-    (λ same. accepted KeepsCovers S _ (one_stays S e c ce (eqb-true e.left_face e.right_face same)))
-    (λ differ. either_is KeepsCovers S (e.left_face == 0) _ _
-    (λ zero. accepted KeepsCovers S _ (into_zero_left S e c ce (eqb-false e.left_face e.right_face differ) (eqb-true e.left_face 0 zero)))
-    (λ some. either_is KeepsCovers S (e.right_face == 0) _ _
-    (λ zero. accepted KeepsCovers S _ (into_zero_right S e c ce (eqb-false e.left_face e.right_face differ) (eqb-true e.right_face 0 zero)))
-    (λ other. either_is KeepsCovers S anew _ _
-    (λ _. accepted KeepsCovers S _ (anew_of S e c order ce (eqb-false e.left_face e.right_face differ) (eqb-false e.left_face 0 some) (eqb-false e.right_face 0 other)))
-    (λ _. accepted KeepsCovers S _ (into_right S e c ce (eqb-false e.left_face e.right_face differ) (eqb-false e.left_face 0 some))))))
-
-pub gone_edge : (anew : Bool) (S : Drawing) (e : Option Edge) → IsCovered S → IsTrue (rows_in_order face_id_of 0 S.next_ids.face S.faces) → ((x : Edge) → e ≡ Some x → Contains S.edges x) → Keeps KeepsCovers S (remove_edge anew S e)
-gone_edge anew S None c order ce = refused KeepsCovers S _
-gone_edge anew S (Some e) c order ce =
-    refuses_else KeepsCovers S (is_in_feature S edge_type e.edge_id) EdgeInFeature _ (λ _.
-    refuses_else KeepsCovers S (not (e.left_face == e.right_face) && not (have_same_features S face_type e.left_face e.right_face)) FaceInFeature _ (λ _.
-    merges anew S e c order (ce e refl)))
+    less m is q = let k = below m is in omega (arith, k, q)

@@ -1,19 +1,18 @@
 -- Without an edge faces have themselves on their left and one shell each, and points are in the faces they were in, by their new names.
-use Rattle.std.proofs.Common.{◌≡◌, ◌≢◌, ℕ, sym, ◌∙◌, ap, subst, ⊎_elim, Bool, List, eqb, IsTrue}
+use Rattle.std.proofs.Common.{◌≡◌, ◌≢◌, ℕ, sym, ◌∙◌, ap, subst, ⊎_elim, List, eqb, IsTrue}
 use Rattle.topo_base.specs.Point.{Point}
 use Rattle.drawing.specs.Drawing.{Drawing, Edge, has_face}
 use Rattle.plane.specs.Segment.{Segment}
 use Rattle.parity_laws.specs.Steps.{above}
 use Rattle.parity_laws.specs.Rings.{In, those, of_face}
-use Rattle.parity_laws.specs.Shelling.{IsShellOf, OneShell}
-use Rattle.parity_laws.proofs.Labels.{those_same, ringwise_same, sided_same}
+use Rattle.parity_laws.proofs.Labels.{shell_faces, one_shell_faces, those_same, ringwise_same, sided_same}
 use Rattle.parity_laws.proofs.OnLine.{last_step}
 use Rattle.parity_laws.proofs.JoinedFaces.{JoinedNumber}
 use Rattle.parity_laws.proofs.JoinedShells.{OuterJoins}
 use Rattle.parity_laws.proofs.LineGone.{IsEndOf}
 use Rattle.parity_laws.proofs.LineGoes.{FacesAreRight, FacesJoin, FaceStays, faces_join, points_join, end_joins, faces_stay, points_stay, end_stays}
 use Rattle.face_laws.specs.Walked.{steps_of}
-use Rattle.face_laws.specs.Covered.{face_of, IsPlaced}
+use Rattle.face_laws.specs.Covered.{face_of, IsInFaceOf}
 use Rattle.face_laws.proofs.Covering.{known}
 use Rattle.subdivision_laws.proofs.GoneSteps.{Takes, edge_goes, faces_before, face_forth, face_back, face_after}
 
@@ -23,8 +22,8 @@ IsFaceOf S g = IsTrue (has_face S g)
 -- T's faces are right; points stay in their faces, and an end of the line where no other step begins is in the face k
 pub record Settled (S T : Drawing) (first : Segment) (rest : List Segment) (name : ℕ → ℕ) (k : ℕ) : Type 0 where
   pub right : FacesAreRight (steps_of T) (face_of T) (IsFaceOf T)
-  pub points : (v : Point) (m : ℕ) → IsFaceOf S m → IsPlaced S v m → IsPlaced T v (name m)
-  pub ends : (x : Segment) → IsEndOf first (last_step first rest) x → ((t : Segment) → In t (steps_of T) → t.a ≢ x.a) → IsPlaced T x.a k
+  pub points : (v : Point) (m : ℕ) → IsFaceOf S m → IsInFaceOf S v m → IsInFaceOf T v (name m)
+  pub ends : (x : Segment) → IsEndOf first (last_step first rest) x → ((t : Segment) → In t (steps_of T) → t.a ≢ x.a) → IsInFaceOf T x.a k
 
 -- the faces on an edge's sides are listed
 sides_listed : (S T : Drawing) (e : Edge) (first : Segment) (rest : List Segment) (name : ℕ → ℕ) → Takes S T e first rest name → IsFaceOf S e.left_face × IsFaceOf S e.right_face
@@ -79,22 +78,12 @@ two_settled S T e first rest name k h = record {
 label_alike : (T : List Segment) (F G : Segment → ℕ) → ((s : Segment) → In s T → F s ≡ G s) → (g : ℕ) (s : Segment) → In s T → of_face F g s ≡ of_face G g s
 label_alike T F G e g s i = ap (λ z. eqb z g) (e s i)
 
-shell_alike : (T : List Segment) (F G : Segment → ℕ) (f : ℕ) (p : Segment → Bool) → ((s : Segment) → In s T → F s ≡ G s) → IsShellOf T F f p → IsShellOf T G f p
-shell_alike T F G f p e s = record { ring = s.ring; face = sym (e s.ring.step s.ring.there) ∙ s.face; is_left = s.is_left }
-
-one_shell_alike : (T : List Segment) (F G : Segment → ℕ) (f : ℕ) → ((s : Segment) → In s T → F s ≡ G s) → OneShell T F f → OneShell T G f
-one_shell_alike T F G f e h = record {
-  p = h.p;
-  shell = shell_alike T F G f h.p e h.shell;
-  only = λ q r a b. h.only q r (shell_alike T G F f q (λ s i. sym (e s i)) a) (shell_alike T G F f r (λ s i. sym (e s i)) b);
-}
-
 pub faces_alike : (T : List Segment) (F G : Segment → ℕ) (I J : ℕ → Type 0) → ((s : Segment) → In s T → F s ≡ G s) → ((g : ℕ) → J g → I g) → FacesAreRight T F I → FacesAreRight T G J
 faces_alike T F G I J e listed h = record {
   rings = λ g. ringwise_same T (of_face F g) (of_face G g) (label_alike T F G e g) (h.rings g);
   sided = λ g n. sided_same T (of_face F g) (of_face G g) (label_alike T F G e g) (h.sided g n);
-  shells = λ g n j. one_shell_alike T F G g e (h.shells g n (listed g j));
-  outer = λ p s. h.outer p (shell_alike T G F 0 p (λ t i. sym (e t i)) s);
+  shells = λ g n j. one_shell_faces T F G g e (h.shells g n (listed g j));
+  outer = λ p s. h.outer p (shell_faces T G F 0 p (λ t i. sym (e t i)) s);
 }
 
 pub record OneSide (S T : Drawing) (e : Edge) (first : Segment) (rest : List Segment) (name : ℕ → ℕ) : Type 0 where

@@ -25,7 +25,7 @@ use Rattle.parity_laws.proofs.Across.{start_on}
 use Rattle.parity_laws.proofs.OnLine.{last_step}
 use Rattle.parity_laws.proofs.LineGone.{IsEndOf}
 use Rattle.face_laws.specs.Walked.{steps_of}
-use Rattle.face_laws.specs.Covered.{IsPlaced, IsCovered}
+use Rattle.face_laws.specs.Covered.{IsInFaceOf, IsCovered}
 use Rattle.face_laws.proofs.Covering.{known}
 use Rattle.face_laws.proofs.Lists.{in_contains}
 use Rattle.face_laws.proofs.PlainSteps.{half_with}
@@ -65,18 +65,18 @@ end_at S T e first rest name r h c is =
 
 -- an end that is isolated now is in the face that covers the place
 pub end_placed : (S T : Drawing) (e : Edge) (first : Segment) (rest : List Segment) (name : ℕ → ℕ) (k : ℕ) (r n : NodeRow) → Takes S T e first rest name → Settled S T first rest name k →
-    Contains S.nodes r → Contains T.nodes n → n.geom ≡ r.geom → is_end_of r.node_id e ≡ true → is_isolated T n.node_id ≡ true → IsPlaced T n.geom k
+    Contains S.nodes r → Contains T.nodes n → n.geom ≡ r.geom → is_end_of r.node_id e ≡ true → is_isolated T n.node_id ≡ true → IsInFaceOf T n.geom k
 end_placed S T e first rest name k r n h settled cr cn geom is lone =
     let x = end_at S T e first rest name r h cr is in
     let at : x.0.a ≡ n.geom = x.1.1 ∙ sym geom in
-    subst (λ (p : Point). IsPlaced T p k) at (settled.ends x.0 x.1.0 (λ t i q. lone_point T n (lines_after T h.after) cn lone t i (q ∙ at)))
+    subst (λ (p : Point). IsInFaceOf T p k) at (settled.ends x.0 x.1.0 (λ t i q. lone_point T n (lines_after T h.after) cn lone t i (q ∙ at)))
 
 -- ---- a node that was isolated
 known_face : (S : Drawing) (c : Option ℕ) (f : ℕ) (i : Bool) → c ≡ Some f → is_face_known S c i ≡ true → has_face S f ≡ true
 known_face S c f i e k = (and_parts i (has_face S f) (subst (λ o. is_face_known S o i ≡ true) e k)).1
 
 pub node_stays : (S T : Drawing) (first : Segment) (rest : List Segment) (name : ℕ → ℕ) (k : ℕ) (r : NodeRow) (c : ℕ) → IsCovered S → Settled S T first rest name k →
-    Contains S.nodes r → r.containing_face ≡ Some c → IsPlaced T r.geom (name c)
+    Contains S.nodes r → r.containing_face ≡ Some c → IsInFaceOf T r.geom (name c)
 node_stays S T first rest name k r c before settled cr e =
     settled.points r.geom c (known_face S r.containing_face c (is_isolated S r.node_id) e ((known S before.ringed).nodes r cr)) (before.placed r c cr e)
 
@@ -92,7 +92,7 @@ put_row face a nodes n c =
 
 -- ---- what is kept
 pub settled_covers : (S T : Drawing) (first : Segment) (rest : List Segment) (name : ℕ → ℕ) (k : ℕ) → Settled S T first rest name k →
-    ((n : NodeRow) (f : ℕ) → Contains T.nodes n → n.containing_face ≡ Some f → IsPlaced T n.geom f) → Covers T
+    ((n : NodeRow) (f : ℕ) → Contains T.nodes n → n.containing_face ≡ Some f → IsInFaceOf T n.geom f) → Covers T
 settled_covers S T first rest name k settled placed = record {
   sided = settled.right.sided;
   shells = λ f is n. settled.right.shells f n is;

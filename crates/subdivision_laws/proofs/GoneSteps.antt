@@ -30,7 +30,8 @@ use Rattle.face_laws.proofs.InnerTurns.{AtInner, inner_starts}
 use Rattle.face_laws.proofs.PlainSteps.{half_with}
 use Rattle.face_laws.proofs.RingLabels.{face_ringwise}
 use Rattle.face_laws.proofs.Vertices.{Follows, follows_meet}
-use Rattle.subdivision_laws.proofs.AddedSteps.{walked_line, drawn_of, MeetAlone, strung_by}
+use Rattle.subdivision_laws.proofs.AddedSteps.{drawn_of, MeetAlone, strung_by}
+use Rattle.face_laws.proofs.LineSteps.{segments-reverse}
 
 -- ---- a row in the middle of a list
 pub record Between (edges : List Edge) (e : Edge) : Type 0 where
@@ -99,7 +100,7 @@ steps_append X Y =
     ∙ flat_map-append steps_along (flat_map both_ways X) (flat_map both_ways Y)
 
 steps_first : (e : Edge) (Y : List Edge) → steps_in (e ∷ Y) ≡ both_ways_of (segments_of e.geom) ++ steps_in Y
-steps_first e Y = ap (λ Z. segments_of e.geom ++ (Z ++ steps_in Y)) (walked_line e.geom) ∙ sym (append_assoc (segments_of e.geom) (walked_back (segments_of e.geom)) (steps_in Y))
+steps_first e Y = ap (λ Z. segments_of e.geom ++ (Z ++ steps_in Y)) (segments-reverse e.geom) ∙ sym (append_assoc (segments_of e.geom) (walked_back (segments_of e.geom)) (steps_in Y))
 
 -- ---- the drawings before and after
 -- T is S without the edge e, whose line goes from first through rest, and T's faces are those of S by their new names

@@ -1,5 +1,5 @@
 -- Edges that are healed: the steps are the same, with the same faces beside them.
-use Rattle.std.proofs.Common.{◌≡◌, ℕ, ◌≤◌, sym, ◌∙◌, ap, subst, refl, ◌⊎◌, inl, inr, ⊎_elim, Bool, not, ◌||◌, ◌==◌, List, ◌∷◌, ◌++◌, length, Option, Some, None, Ok}
+use Rattle.std.proofs.Common.{◌≡◌, ℕ, ◌≤◌, sym, ◌∙◌, ap, subst, refl, ◌⊎◌, inl, inr, ⊎_elim, not, ◌==◌, List, ◌∷◌, ◌++◌, length}
 use Rattle.std.specs.Prelude.{reverse}
 use Rattle.std.specs.List.{Contains}
 use Rattle.std.proofs.lemmas.List.{length-reverse}
@@ -7,36 +7,29 @@ use Rattle.topo_base.specs.Point.{Point}
 use Rattle.topo_base.specs.declared.rows.NodeRow.{NodeRow}
 use Rattle.topo_base.specs.declared.rows.RelationRow.{RelationRow}
 use Rattle.topo_base.specs.declared.rows.Counters.{Counters}
-use Rattle.topo_base.specs.declared.rule.Rule.TheVariants.{ClosedEdge, NotJoined, HealSplitsFeature, NodeInFeature}
 use Rattle.drawing.specs.Drawing.{Drawing, Edge, node_id_of}
 use Rattle.drawing.specs.HalfEdge.{HalfEdge, forward_of, backward_of, half_edges, twin}
-use Rattle.drawing.specs.HealEdges.{joined_edge, is_closed, is_nothing, common_nodes, healed_node}
-use Rattle.drawing.specs.Edits.{heal_edges, heal_at, heal_new, heal_mod}
-use Rattle.drawing.specs.IsoEdits.{is_in_feature}
+use Rattle.drawing.specs.HealEdges.{joined_edge}
 use Rattle.plane.specs.Line.{segments_of, first_vertex, last_vertex, joined}
-use Rattle.drawing.specs.RemoveEdge.{have_same_features}
-use Rattle.drawing.specs.Relations.{node_type, edge_type}
 use Rattle.plane.specs.Segment.{Segment}
 use Rattle.plane.specs.Crossings.{back}
-use Rattle.drawing.specs.Change.{EdgesAreJoined, EdgesAreJoinedAnew}
-use Rattle.drawing.proofs.Keeping.{Keeps, either, accepted, refused, refuses_else}
 use Rattle.plane.proofs.LineTurns.{first-reverse, last-reverse, segments-joined}
 use Rattle.drawing.proofs.Members.{contains-filtered}
 use Rattle.face_rings.specs.FaceBorder.{HasRings}
 use Rattle.face_rings.proofs.FaceBorders.{has_plain_lines}
 use Rattle.face_rings.proofs.HalfLines.{HasPlainLines, begins}
 use Rattle.face_rings.proofs.HalvesApart.{half_of, line_of}
-use Rattle.subdivision_laws.proofs.EditedEdges.{AreHealable, healed_anew, healed_changed, healable}
+use Rattle.ring_laws.specs.Ringed.{IsRinged}
 use Rattle.ring_laws.proofs.HealedSides.{healed_with}
-use Rattle.subdivision_laws.proofs.Joint.{IsHealed, AreBoth, first_there, Joint, make_joint, edge_cases, joint_sides}
+use Rattle.ring_laws.proofs.Joint.{IsHealed, AreBoth, first_there, Joint, make_joint, edge_cases, joint_sides}
 use Rattle.ring_laws.proofs.Turning.{joined_of}
 use Rattle.parity_laws.specs.Rings.{In}
 use Rattle.face_laws.specs.Walked.{steps_along}
 use Rattle.face_laws.specs.Covered.{IsCovered}
-use Rattle.face_laws.proofs.Lists.{in_front, in_behind, in_either}
 use Rattle.face_laws.proofs.LineSteps.{in_reverse, from_reverse}
-use Rattle.subdivision_laws.proofs.Covers.{KeepsCovers}
+use Rattle.subdivision_laws.proofs.Covers.{Covers}
 use Rattle.subdivision_laws.proofs.SameSteps.{CarriesOver, covers_after, AreStepsOf, own_steps, steps_forward, LiesAlong, same_steps}
+use Rattle.parity_laws.proofs.Lists.{in_left, in_right, in_cases}
 
 -- ---- the steps of a joined line
 joined_segments : (a b : List Point) → 2 ≤ length a → 2 ≤ length b → last_vertex a ≡ first_vertex b → segments_of (joined a b) ≡ segments_of a ++ segments_of b
@@ -55,9 +48,9 @@ along_both : (a b c : HalfEdge) → 2 ≤ length b.points → 2 ≤ length c.poi
 along_both a b c h k e is =
     let whole : segments_of a.points ≡ segments_of b.points ++ segments_of c.points = ap segments_of is ∙ joined_segments b.points c.points h k e in
     record {
-      steps = λ s i. in_either s (segments_of b.points) (segments_of c.points) (subst (In s) whole i);
-      of_first = λ s i. subst (In s) (sym whole) (in_front s (segments_of b.points) (segments_of c.points) i);
-      of_second = λ s i. subst (In s) (sym whole) (in_behind s (segments_of b.points) (segments_of c.points) i);
+      steps = λ s i. in_cases s (segments_of b.points) (segments_of c.points) (subst (In s) whole i);
+      of_first = λ s i. subst (In s) (sym whole) (in_left s (segments_of b.points) (segments_of c.points) i);
+      of_second = λ s i. subst (In s) (sym whole) (in_right s (segments_of b.points) (segments_of c.points) i);
     }
 
 -- a step of one of the two half-edges of x, walked back, is one of the other
@@ -154,26 +147,8 @@ healed_carries S n e f id fs rows ids rings h more = same_steps S T good more al
         o)
         (edge_cases S n e f id fs x good h c)
 
-healed_covers : (S : Drawing) (n : ℕ) (e f : Edge) (id : ℕ) (fs : List Edge) (rows : List RelationRow) (ids : Counters) → IsCovered S → IsHealed S n e f id fs → KeepsCovers S (healed_with S n fs rows ids)
+pub healed_covers : (S : Drawing) (n : ℕ) (e f : Edge) (id : ℕ) (fs : List Edge) (rows : List RelationRow) (ids : Counters) → IsCovered S → IsHealed S n e f id fs → IsRinged (healed_with S n fs rows ids) → Covers (healed_with S n fs rows ids)
 healed_covers S n e f id fs rows ids c h ringed =
     let T = healed_with S n fs rows ids in
     covers_after S T c (healed_carries S n e f id fs rows ids c.ringed.rings h (has_plain_lines T ringed.rings)) refl
     (λ m k i e'. (contains-filtered (λ (r : NodeRow). not (node_id_of r == n)) m S.nodes i).0)
-
--- ---- the edits
-heals_at : (anew : Bool) (S : Drawing) (e f : Edge) (n : Option ℕ) → IsCovered S → ((m : ℕ) → n ≡ Some m → AreHealable S m e f) → Keeps KeepsCovers S (heal_at anew S e f n)
-heals_at anew S e f None c may = refused KeepsCovers S _
-heals_at anew S e f (Some n) c may =
-    refuses_else KeepsCovers S (not (have_same_features S edge_type e.edge_id f.edge_id)) HealSplitsFeature _ (λ _.
-    refuses_else KeepsCovers S (is_in_feature S node_type n) NodeInFeature _ (λ _.
-    either KeepsCovers S anew (Ok (EdgesAreJoinedAnew e f n)) (Ok (EdgesAreJoined e f n))
-    (accepted KeepsCovers S _ (healed_covers S n e f S.next_ids.edge _ _ _ c (healed_anew S n e f (may n refl))))
-    (accepted KeepsCovers S _ (healed_covers S n e f e.edge_id _ _ _ c (healed_changed S n e f (has_plain_lines S c.ringed.rings) (may n refl))))))
-
-pub heals : (anew : Bool) (S : Drawing) (e f : Option Edge) → IsCovered S → ((x : Edge) → e ≡ Some x → Contains S.edges x) → ((x : Edge) → f ≡ Some x → Contains S.edges x) → Keeps KeepsCovers S (heal_edges anew S e f)
-heals anew S None f c ce cf = refused KeepsCovers S _
-heals anew S (Some e) None c ce cf = refused KeepsCovers S _
-heals anew S (Some e) (Some f) c ce cf =
-    refuses_else KeepsCovers S (is_closed e || is_closed f) ClosedEdge _ (λ opened.
-    refuses_else KeepsCovers S (e.edge_id == f.edge_id || is_nothing (common_nodes e f)) NotJoined _ (λ joined.
-    heals_at anew S e f (healed_node S e f) c (λ n is. healable S e f n (ce e refl) (cf f refl) opened joined is)))

@@ -1,10 +1,7 @@
 pub mod Covers
 pub mod NodesStay
-pub mod LayersStay
 pub mod SameSteps
-pub mod Joint
 pub mod HealsStay
-pub mod EditedEdges
 pub mod CutEdges
 pub mod SplitsStay
 pub mod AddedSteps

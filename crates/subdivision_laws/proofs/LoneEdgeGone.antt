@@ -1,20 +1,16 @@
 -- An isolated edge that goes.
-use Rattle.std.proofs.Common.{◌≡◌, ℕ, refl, sym, ◌∙◌, ap, subst, ◌⊎◌, ⊎_elim, true, false, not, ◌==◌, List, [], ◌∷◌, map, Option, Some, None}
+use Rattle.std.proofs.Common.{◌≡◌, ℕ, refl, sym, ◌∙◌, ap, subst, ◌⊎◌, ⊎_elim, true, false, ◌==◌, List, [], ◌∷◌, map, Some}
 use Rattle.std.specs.List.{Contains}
 use Rattle.std.proofs.lemmas.Bool.{both_ways, eqb-true, eq-eqb, or_left, or_right}
 use Rattle.topo_base.specs.declared.rows.NodeRow.{NodeRow}
-use Rattle.topo_base.specs.declared.rule.Rule.TheVariants.{NotIsolated, EdgeInFeature}
 use Rattle.drawing.specs.Drawing.{Drawing, Edge, edge_id_of, is_end_of, is_isolated}
 use Rattle.drawing.specs.HalfEdge.{HalfEdge, forward_of, backward_of, half_edges}
-use Rattle.drawing.specs.IsoEdits.{is_in_feature, is_isolated_edge, put_in_face}
-use Rattle.drawing.specs.Edits.{remove_iso_edge}
+use Rattle.drawing.specs.IsoEdits.{put_in_face}
 use Rattle.plane.specs.Line.{segments_of}
-use Rattle.drawing.specs.Relations.{edge_type}
 use Rattle.drawing.specs.Rows.{without_row}
 use Rattle.plane.specs.Segment.{Segment}
-use Rattle.drawing.proofs.Keeping.{Keeps, accepted, refused, refuses_else}
 use Rattle.plane.proofs.ListTests.{some_same}
-use Rattle.edit_changes.proofs.PlainStaying.{passed}
+use Rattle.edit_changes.specs.Evidence.{LoneEdgeMayGo}
 use Rattle.face_rings.proofs.HalfLines.{begins}
 use Rattle.face_rings.proofs.HalvesApart.{half_of, backward_there, one_edge}
 use Rattle.face_rings.proofs.Ranks.{by_bool}
@@ -23,8 +19,8 @@ use Rattle.ring_laws.proofs.Known.{isolated_if, put_twice}
 use Rattle.ring_laws.proofs.KnownStays.{without_edge}
 use Rattle.ring_laws.proofs.Turning.{Turns, joined_of}
 use Rattle.ring_laws.proofs.WithoutEdge.{IsAlone, alone_of, leaves_end, was_edge}
-use Rattle.face_laws.specs.Covered.{IsPlaced, IsCovered}
-use Rattle.subdivision_laws.proofs.Covers.{Covers, KeepsCovers}
+use Rattle.face_laws.specs.Covered.{IsInFaceOf, IsCovered}
+use Rattle.subdivision_laws.proofs.Covers.{Covers}
 use Rattle.subdivision_laws.proofs.GoneSteps.{with_sides, Takes, lines_before}
 use Rattle.subdivision_laws.proofs.GoneFaces.{Settled, one_settled}
 use Rattle.subdivision_laws.proofs.GoneNodes.{end_placed, node_stays, put_row, settled_covers}
@@ -64,11 +60,17 @@ same_sides [] = refl
 same_sides (e ∷ edges) = ap (λ (es : List Edge). e ∷ es) (same_sides edges)
 
 -- ---- the drawing without it
-covered_without : (S : Drawing) (e : Edge) → IsCovered S → Contains S.edges e → IsAlone S e → IsRinged (without_edge S e) → Covers (without_edge S e)
-covered_without S e c ce alone ringed =
+pub lone_edge_less : (S : Drawing) (e : Edge) → LoneEdgeMayGo S e → IsCovered S → IsRinged (without_edge S e) → Covers (without_edge S e)
+lone_edge_less S e k c ringed =
     let b = begins e.geom ((lines_before S c).long e ce) in
     by_line (record { a = b.first; b = b.second }) (segments_of (b.second ∷ b.rest)) (ap segments_of b.is)
   where
+    ce : Contains S.edges e
+    ce = k.there
+
+    alone : IsAlone S e
+    alone = alone_of S e k.lone
+
     by_line : (first : Segment) (rest : List Segment) → segments_of e.geom ≡ first ∷ rest → Covers (without_edge S e)
     by_line first rest line = settled_covers S (without_edge S e) first rest (λ m. m) e.left_face settled placed
       where
@@ -96,22 +98,15 @@ covered_without S e c ce alone ringed =
             let was = was_edge S.edges e x cx in
             ⊎_elim (λ (p : n ≡ e.start_node). alone.at_start x was.0 was.1 (subst (λ m. is_end_of m x ≡ true) p t)) (λ (p : n ≡ e.end_node). alone.at_end x was.0 was.1 (subst (λ m. is_end_of m x ≡ true) p t)) at)
 
-        placed : (n : NodeRow) (f : ℕ) → Contains (without_edge S e).nodes n → n.containing_face ≡ Some f → IsPlaced (without_edge S e) n.geom f
+        placed : (n : NodeRow) (f : ℕ) → Contains (without_edge S e).nodes n → n.containing_face ≡ Some f → IsInFaceOf (without_edge S e) n.geom f
         placed n f i is =
             let m = put_twice (Some e.left_face) e.start_node e.end_node S.nodes n i in
             let r = end_row n i in
             ⊎_elim
             (λ (at : (n.containing_face ≡ Some e.left_face) × ((n.node_id ≡ e.start_node) ⊎ (n.node_id ≡ e.end_node))).
-            subst (IsPlaced (without_edge S e) n.geom) (some_same e.left_face f (sym at.0 ∙ is))
+            subst (IsInFaceOf (without_edge S e) n.geom) (some_same e.left_face f (sym at.0 ∙ is))
             (end_placed S (without_edge S e) e first rest (λ m. m) e.left_face r.0 n takes settled r.1.0 i r.1.1.1 (subst (λ k. is_end_of k e ≡ true) r.1.1.0 (is_end n.node_id at.1)) (lone n.node_id at.1)))
             (λ (at : (n ≡ m.row) × (n.node_id ≡ e.start_node → ⊥) × (n.node_id ≡ e.end_node → ⊥)).
-            subst (λ (x : NodeRow). IsPlaced (without_edge S e) x.geom f) (sym at.0)
+            subst (λ (x : NodeRow). IsInFaceOf (without_edge S e) x.geom f) (sym at.0)
             (node_stays S (without_edge S e) first rest (λ m. m) e.left_face m.row f c settled m.there (ap (λ (x : NodeRow). x.containing_face) (sym at.0) ∙ is)))
             m.is
-
-pub lone_edge_less : (S : Drawing) (e : Option Edge) → IsCovered S → ((x : Edge) → e ≡ Some x → Contains S.edges x) → Keeps KeepsCovers S (remove_iso_edge S e)
-lone_edge_less S None c ce = refused KeepsCovers S _
-lone_edge_less S (Some e) c ce =
-    refuses_else KeepsCovers S (not (is_isolated_edge S e)) NotIsolated _ (λ lone.
-    refuses_else KeepsCovers S (is_in_feature S edge_type e.edge_id) EdgeInFeature _ (λ _.
-    accepted KeepsCovers S _ (λ ringed. covered_without S e c (ce e refl) (alone_of S e (passed (is_isolated_edge S e) lone)) ringed)))

@@ -14,7 +14,7 @@ use Rattle.face_rings.proofs.HalfLines.{begins}
 use Rattle.ring_laws.specs.Ringed.{IsRinged}
 use Rattle.ring_laws.proofs.Known.{isolated_if, none_ends}
 use Rattle.ring_laws.proofs.MergedSides.{lessened, merged_with}
-use Rattle.face_laws.specs.Covered.{IsPlaced, IsCovered}
+use Rattle.face_laws.specs.Covered.{IsInFaceOf, IsCovered}
 use Rattle.subdivision_laws.proofs.Covers.{Covers}
 use Rattle.subdivision_laws.proofs.GoneSteps.{Takes, lines_before}
 use Rattle.subdivision_laws.proofs.GoneFaces.{Settled}
@@ -37,23 +37,23 @@ was_face name (Some c) f e = (c, (refl, some_same (name c) f e))
 
 node_placed : (S : Drawing) (e : Edge) (gone : List ℕ) (kept : ℕ) (faces : List ℕ) (ids : Counters) (first : Segment) (rest : List Segment) → Takes S (merged_with S e gone kept faces ids) e first rest (renamed gone kept) →
     Settled S (merged_with S e gone kept faces ids) first rest (renamed gone kept) kept →
-    (n : NodeRow) (f : ℕ) → Contains (merged_with S e gone kept faces ids).nodes n → n.containing_face ≡ Some f → IsPlaced (merged_with S e gone kept faces ids) n.geom f
+    (n : NodeRow) (f : ℕ) → Contains (merged_with S e gone kept faces ids).nodes n → n.containing_face ≡ Some f → IsInFaceOf (merged_with S e gone kept faces ids) n.geom f
 node_placed S e gone kept faces ids first rest h settled n f c is =
     let r = contains-mapped (renamed_node (lessened S e) e gone kept) n S.nodes c in
     by_test r.0 r.1.0 (is_end_of r.0.node_id e && is_isolated (lessened S e) r.0.node_id) refl r.1.1
   where
     by_test : (r : NodeRow) → Contains S.nodes r → (t : Bool) → (is_end_of r.node_id e && is_isolated (lessened S e) r.node_id) ≡ t →
-        cond t (record r { containing_face = Some kept }) (record r { containing_face = option_map (renamed gone kept) r.containing_face }) ≡ n → IsPlaced (merged_with S e gone kept faces ids) n.geom f
+        cond t (record r { containing_face = Some kept }) (record r { containing_face = option_map (renamed gone kept) r.containing_face }) ≡ n → IsInFaceOf (merged_with S e gone kept faces ids) n.geom f
     by_test r cr true t same =
         let both = and_parts (is_end_of r.node_id e) (is_isolated (lessened S e) r.node_id) t in
         let id : r.node_id ≡ n.node_id = ap (λ (x : NodeRow). x.node_id) same in
-        subst (IsPlaced (merged_with S e gone kept faces ids) n.geom) (some_same kept f (ap (λ (x : NodeRow). x.containing_face) same ∙ is))
+        subst (IsInFaceOf (merged_with S e gone kept faces ids) n.geom) (some_same kept f (ap (λ (x : NodeRow). x.containing_face) same ∙ is))
         (end_placed S (merged_with S e gone kept faces ids) e first rest (renamed gone kept) kept r n h settled cr c (sym (ap (λ (x : NodeRow). x.geom) same)) both.0
         (subst (λ k. is_isolated (merged_with S e gone kept faces ids) k ≡ true) id (lone_merged S e gone kept faces ids r.node_id both.1)))
     by_test r cr false t same =
         let (m, (was, now)) = was_face (renamed gone kept) r.containing_face f (ap (λ (x : NodeRow). x.containing_face) same ∙ is) in
-        subst (λ p. IsPlaced (merged_with S e gone kept faces ids) p f) (ap (λ (x : NodeRow). x.geom) same)
-        (subst (IsPlaced (merged_with S e gone kept faces ids) r.geom) now
+        subst (λ p. IsInFaceOf (merged_with S e gone kept faces ids) p f) (ap (λ (x : NodeRow). x.geom) same)
+        (subst (IsInFaceOf (merged_with S e gone kept faces ids) r.geom) now
         (node_stays S (merged_with S e gone kept faces ids) first rest (renamed gone kept) kept r m h.before settled cr was))
 
 -- ---- the drawing

@@ -6,42 +6,34 @@ use Rattle.std.proofs.lemmas.Bool.{eqb-true}
 use Rattle.std.proofs.lemmas.List.Elements.{Contains-push_cases}
 use Rattle.topo_base.specs.Point.{Point}
 use Rattle.topo_base.specs.declared.rows.NodeRow.{NodeRow}
-use Rattle.topo_base.specs.declared.rule.Rule.TheVariants.{NoFace, NotIsolated, PointBlocked, NotInFace, NodeInFeature}
-use Rattle.drawing.specs.Blocked.{is_blocked, is_blocked_for}
-use Rattle.drawing.specs.Drawing.{Drawing, is_isolated, node_id_of}
+use Rattle.drawing.specs.Drawing.{Drawing, node_id_of}
 use Rattle.drawing.specs.Faces.{face_at}
-use Rattle.drawing.specs.IsoEdits.{accepts_face, is_given_face, is_in_feature}
-use Rattle.drawing.specs.Edits.{add_iso_node, move_iso_node, remove_iso_node}
-use Rattle.drawing.specs.Relations.{node_type}
-use Rattle.drawing.proofs.Keeping.{Keeps, accepted, refused, refuses_else}
+use Rattle.drawing.specs.IsoEdits.{with_node, put_at}
+use Rattle.drawing.specs.Rows.{without_row}
 use Rattle.plane.proofs.ListTests.{some_same}
 use Rattle.drawing.proofs.Members.{contains-mapped, contains-filtered, pairwise-same}
-use Rattle.edit_changes.proofs.PlainStaying.{passed}
+use Rattle.edit_changes.specs.Evidence.{NodeMayCome, NodeMayMove}
 use Rattle.face_rings.proofs.FaceBorders.{has_plain_lines}
-use Rattle.face_laws.specs.Covered.{IsPlaced, IsCovered}
+use Rattle.face_laws.specs.Covered.{IsInFaceOf, IsCovered}
 use Rattle.face_laws.proofs.Covering.{sides_of, point_placed}
-use Rattle.subdivision_laws.proofs.Covers.{KeepsCovers}
+use Rattle.subdivision_laws.proofs.Covers.{Covers}
 
-pub node_more : (S : Drawing) (face : Option ℕ) (p : Point) → IsCovered S → Keeps KeepsCovers S (add_iso_node S face p)
-node_more S face p c =
-    refuses_else KeepsCovers S (not (accepts_face S face)) NoFace _ (λ _.
-    refuses_else KeepsCovers S (is_blocked S p) PointBlocked _ (λ _.
-    refuses_else KeepsCovers S (not (is_given_face face (face_at S p))) NotInFace _ (λ _.
-    accepted KeepsCovers S _ (λ ringed. record {
-      sided = c.sided;
-      shells = c.shells;
-      outer = c.outer;
-      placed = λ n f i e.
-          ⊎_elim
-          (λ (old : Contains S.nodes n). c.placed n f old e)
-          (λ (new : record { node_id = S.next_ids.node; containing_face = Some (face_at S p); geom = p } ≡ n). at_new n f new e)
-          (Contains-push_cases S.nodes (record { node_id = S.next_ids.node; containing_face = Some (face_at S p); geom = p }) n i);
-    }))))
+pub node_more : (S : Drawing) (face : ℕ) (p : Point) → NodeMayCome S face p → IsCovered S → Covers (with_node S (Some face) p)
+node_more S face p k c = record {
+  sided = c.sided;
+  shells = c.shells;
+  outer = c.outer;
+  placed = λ n f i e.
+      ⊎_elim
+      (λ (old : Contains S.nodes n). c.placed n f old e)
+      (λ (new : record { node_id = S.next_ids.node; containing_face = Some face; geom = p } ≡ n). at_new n f new e)
+      (Contains-push_cases S.nodes (record { node_id = S.next_ids.node; containing_face = Some face; geom = p }) n i);
+}
   where
-    at_new : (n : NodeRow) (f : ℕ) → record { node_id = S.next_ids.node; containing_face = Some (face_at S p); geom = p } ≡ n → n.containing_face ≡ Some f → IsPlaced S n.geom f
+    at_new : (n : NodeRow) (f : ℕ) → record { node_id = S.next_ids.node; containing_face = Some face; geom = p } ≡ n → n.containing_face ≡ Some f → IsInFaceOf S n.geom f
     at_new n f new e =
-        subst (λ (q : Point). IsPlaced S q f) (ap (λ (m : NodeRow). m.geom) new)
-        (subst (IsPlaced S p) (some_same (face_at S p) f (ap (λ (m : NodeRow). m.containing_face) new ∙ e)) (point_placed S p (sides_of S c)))
+        subst (λ (q : Point). IsInFaceOf S q f) (ap (λ (m : NodeRow). m.geom) new)
+        (subst (IsInFaceOf S p) (k.lies ∙ some_same face f (ap (λ (m : NodeRow). m.containing_face) new ∙ e)) (point_placed S p (sides_of S c)))
 
 pub same_face : (o : Option ℕ) (g : ℕ) → option_eq nat_eq o (Some g) ≡ true → o ≡ Some g
 same_face None g e = cc
@@ -54,34 +46,25 @@ one_node S n m c i j e =
     (λ differ. differ (eqb-true m.node_id n.node_id e))
     (λ differ. differ (sym (eqb-true m.node_id n.node_id e)))
 
-pub node_elsewhere : (S : Drawing) (n : Option NodeRow) (p : Point) → IsCovered S → ((m : NodeRow) → n ≡ Some m → Contains S.nodes m) → Keeps KeepsCovers S (move_iso_node S n p)
-node_elsewhere S None p c there = refused KeepsCovers S _
-node_elsewhere S (Some n) p c there =
-    refuses_else KeepsCovers S (not (is_isolated S n.node_id)) NotIsolated _ (λ _.
-    refuses_else KeepsCovers S (is_blocked_for S n.node_id p) PointBlocked _ (λ _.
-    refuses_else KeepsCovers S (not (option_eq nat_eq n.containing_face (Some (face_at S p)))) NotInFace _ (λ same.
-    accepted KeepsCovers S _ (λ ringed. record {
-      sided = c.sided;
-      shells = c.shells;
-      outer = c.outer;
-      placed = λ m f i e. let r = contains-mapped (λ (row : NodeRow). cond (node_id_of row == n.node_id) (record row { geom = p }) row) m S.nodes i in moved (same_face n.containing_face (face_at S p) (passed (option_eq nat_eq n.containing_face (Some (face_at S p))) same)) m f r.0 r.1.0 r.1.1 e;
-    }))))
+pub node_elsewhere : (S : Drawing) (n : NodeRow) (p : Point) → NodeMayMove S n p → IsCovered S → Covers (record S { nodes = put_at p n.node_id S.nodes })
+node_elsewhere S n p k c = record {
+  sided = c.sided;
+  shells = c.shells;
+  outer = c.outer;
+  placed = λ m f i e. let r = contains-mapped (λ (row : NodeRow). cond (node_id_of row == n.node_id) (record row { geom = p }) row) m S.nodes i in moved m f r.0 r.1.0 r.1.1 e;
+}
   where
-    moved : n.containing_face ≡ Some (face_at S p) → (m : NodeRow) (f : ℕ) (row : NodeRow) → Contains S.nodes row → cond (node_id_of row == n.node_id) (record row { geom = p }) row ≡ m → m.containing_face ≡ Some f → IsPlaced S m.geom f
-    moved own m f row i is e = by_test (node_id_of row == n.node_id) refl is
+    moved : (m : NodeRow) (f : ℕ) (row : NodeRow) → Contains S.nodes row → cond (node_id_of row == n.node_id) (record row { geom = p }) row ≡ m → m.containing_face ≡ Some f → IsInFaceOf S m.geom f
+    moved m f row i is e = by_test (node_id_of row == n.node_id) refl is
       where
-        by_test : (b : Bool) → (node_id_of row == n.node_id) ≡ b → cond b (record row { geom = p }) row ≡ m → IsPlaced S m.geom f
-        by_test true t is = subst (λ (q : Point). IsPlaced S q f) (ap (λ (x : NodeRow). x.geom) is) (subst (IsPlaced S p) (some_same (face_at S p) f (sym own ∙ ap (λ (x : NodeRow). x.containing_face) (sym (one_node S n row c (there n refl) i t)) ∙ ap (λ (x : NodeRow). x.containing_face) is ∙ e)) (point_placed S p (sides_of S c)))
-        by_test false t is = subst (λ (q : Point). IsPlaced S q f) (ap (λ (x : NodeRow). x.geom) is) (c.placed row f i (ap (λ (x : NodeRow). x.containing_face) is ∙ e))
+        by_test : (b : Bool) → (node_id_of row == n.node_id) ≡ b → cond b (record row { geom = p }) row ≡ m → IsInFaceOf S m.geom f
+        by_test true t is = subst (λ (q : Point). IsInFaceOf S q f) (ap (λ (x : NodeRow). x.geom) is) (subst (IsInFaceOf S p) (some_same (face_at S p) f (sym k.lies ∙ ap (λ (x : NodeRow). x.containing_face) (sym (one_node S n row c k.there i t)) ∙ ap (λ (x : NodeRow). x.containing_face) is ∙ e)) (point_placed S p (sides_of S c)))
+        by_test false t is = subst (λ (q : Point). IsInFaceOf S q f) (ap (λ (x : NodeRow). x.geom) is) (c.placed row f i (ap (λ (x : NodeRow). x.containing_face) is ∙ e))
 
-pub node_less : (S : Drawing) (n : Option NodeRow) → IsCovered S → Keeps KeepsCovers S (remove_iso_node S n)
-node_less S None c = refused KeepsCovers S _
-node_less S (Some n) c =
-    refuses_else KeepsCovers S (not (is_isolated S n.node_id)) NotIsolated _ (λ _.
-    refuses_else KeepsCovers S (is_in_feature S node_type n.node_id) NodeInFeature _ (λ _.
-    accepted KeepsCovers S _ (λ ringed. record {
-      sided = c.sided;
-      shells = c.shells;
-      outer = c.outer;
-      placed = λ m f i e. c.placed m f (contains-filtered (λ (row : NodeRow). not (node_id_of row == n.node_id)) m S.nodes i).0 e;
-    })))
+pub node_less : (S : Drawing) (n : NodeRow) → IsCovered S → Covers (record S { nodes = without_row node_id_of S.nodes n.node_id })
+node_less S n c = record {
+  sided = c.sided;
+  shells = c.shells;
+  outer = c.outer;
+  placed = λ m f i e. c.placed m f (contains-filtered (λ (row : NodeRow). not (node_id_of row == n.node_id)) m S.nodes i).0 e;
+}

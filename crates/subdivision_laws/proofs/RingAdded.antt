@@ -7,8 +7,9 @@ use Rattle.topo_base.specs.Point.{Point}
 use Rattle.topo_base.specs.declared.rows.NodeRow.{NodeRow}
 use Rattle.drawing.specs.AddEdge.{Division, divided, keeps_left, one_new, two_new}
 use Rattle.drawing.specs.Drawing.{Drawing, node_id_of, edge_id_of, layer_id_of, feature_id_of, has_face}
-use Rattle.drawing.specs.HalfEdge.{HalfEdge, forward_of, backward_of, half_edges}
-use Rattle.drawing.specs.Ring.{ring_of, contains_half_edge, is_shell}
+use Rattle.drawing.specs.HalfEdge.{forward_of, backward_of, half_edges}
+use Rattle.drawing.specs.Ring.{contains_half_edge, is_shell}
+use Rattle.edit_changes.specs.Evidence.{left_ring, right_ring}
 use Rattle.plane.specs.Segment.{Segment}
 use Rattle.drawing.specs.Subdivision.{face_id_of, rows_in_order, ids_in_order}
 use Rattle.plane.specs.Crossings.{back}
@@ -16,6 +17,7 @@ use Rattle.plane.proofs.ListTests.{contains_cases, contains_none}
 use Rattle.drawing.proofs.Members.{contains-filtered, ids_within}
 use Rattle.face_rings.proofs.FaceBorders.{has_plain_lines}
 use Rattle.ring_laws.specs.Parts.{IsDividedBy}
+use Rattle.ring_laws.specs.Ringed.{IsRinged}
 use Rattle.ring_laws.proofs.Known.{any_in, any_out}
 use Rattle.ring_laws.proofs.KnownStays.{is_listed}
 use Rattle.parity_laws.specs.Rings.{In, Ringwise, OneRing}
@@ -28,7 +30,7 @@ use Rattle.face_laws.proofs.Facing.{step_listed}
 use Rattle.face_laws.proofs.PlainSteps.{step_back}
 use Rattle.face_laws.proofs.RingLabels.{face_ringwise, ring_ringwise, ring_is_one, own_steps, step_of_ring}
 use Rattle.face_laws.proofs.ShellTests.{shell_is}
-use Rattle.subdivision_laws.proofs.Covers.{KeepsCovers}
+use Rattle.subdivision_laws.proofs.Covers.{Covers}
 use Rattle.subdivision_laws.proofs.AddedSteps.{first_of, rest_of, last_of, added, edge_of, Adds, lines_after, drawn_of, line_comes, face_comes, steps_added, forward_in, backward_in}
 use Rattle.subdivision_laws.proofs.AddedSides.{added_sided, added_placed}
 use Rattle.parity_laws.proofs.ClosingShells.{Closes, IsTurned, rest_of_face, rest_of_outer_face, other_none, other_one}
@@ -56,15 +58,9 @@ faces_in_order S order =
 -- the edge closes a ring
 pub record AddsRing (S : Drawing) (a b : NodeRow) (p q : Point) (vs : List Point) (f : ℕ) : Type 0 where
   pub adds : Adds S a b p q vs f
-  pub cut : contains_half_edge (ring_of (half_edges (added S a b p q vs f)) (forward_of (edge_of S a b p q vs f))) (backward_of (edge_of S a b p q vs f)) ≡ false
+  pub cut : contains_half_edge (left_ring S a b (p ∷ q ∷ vs) f) (backward_of (edge_of S a b p q vs f)) ≡ false
   pub listed : has_face S f ≡ true
   pub below : FacesBelow S
-
-abbrev left_of : Drawing → NodeRow → NodeRow → Point → Point → List Point → ℕ → List HalfEdge
-left_of S a b p q vs f = ring_of (half_edges (added S a b p q vs f)) (forward_of (edge_of S a b p q vs f))
-
-abbrev right_of : Drawing → NodeRow → NodeRow → Point → Point → List Point → ℕ → List HalfEdge
-right_of S a b p q vs f = ring_of (half_edges (added S a b p q vs f)) (backward_of (edge_of S a b p q vs f))
 
 closes : (S : Drawing) (a b : NodeRow) (p q : Point) (vs : List Point) (f : ℕ) → AddsRing S a b p q vs f →
     Closes (steps_of S) (first_of p q) (rest_of q vs) (last_of p q vs) (face_of S) (face_of (added S a b p q vs f)) f (left_label (added S a b p q vs f) (edge_of S a b p q vs f)) (right_label (added S a b p q vs f) (edge_of S a b p q vs f))
@@ -136,14 +132,14 @@ outer_none S a b p q vs f h n =
     0 (closes S a b p q vs f h) (λ e. n (sym e)) h.adds.before.outer)
 
 divided_by : (S : Drawing) (a b : NodeRow) (p q : Point) (vs : List Point) (f l r : ℕ) →
-    IsDividedBy (added S a b p q vs f) (edge_of S a b p q vs f) (record { face = f; left_ring = left_of S a b p q vs f; right_ring = right_of S a b p q vs f; left_part = l; right_part = r })
+    IsDividedBy (added S a b p q vs f) (edge_of S a b p q vs f) (record { face = f; left_ring = left_ring S a b (p ∷ q ∷ vs) f; right_ring = right_ring S a b (p ∷ q ∷ vs) f; left_part = l; right_part = r })
 divided_by S a b p q vs f l r = record { there = Contains-push S.edges (edge_of S a b p q vs f); left = refl; right = refl; left_ring = refl; right_ring = refl }
 
 -- ---- both parts are new
 pub two_parts : (S : Drawing) (a b : NodeRow) (p q : Point) (vs : List Point) (f : ℕ) → AddsRing S a b p q vs f → f ≢ 0 →
-    KeepsCovers S (divided (added S a b p q vs f) (two_new (added S a b p q vs f) f (left_of S a b p q vs f) (right_of S a b p q vs f)) (filter (λ g. not (g == f)) S.faces ++ S.next_ids.face ∷ (S.next_ids.face + 1) ∷ []) 2)
+    IsRinged (divided (added S a b p q vs f) (two_new (added S a b p q vs f) f (left_ring S a b (p ∷ q ∷ vs) f) (right_ring S a b (p ∷ q ∷ vs) f)) (filter (λ g. not (g == f)) S.faces ++ S.next_ids.face ∷ (S.next_ids.face + 1) ∷ []) 2) → Covers (divided (added S a b p q vs f) (two_new (added S a b p q vs f) f (left_ring S a b (p ∷ q ∷ vs) f) (right_ring S a b (p ∷ q ∷ vs) f)) (filter (λ g. not (g == f)) S.faces ++ S.next_ids.face ∷ (S.next_ids.face + 1) ∷ []) 2)
 two_parts S a b p q vs f h n ringed =
-    divided_covers (added S a b p q vs f) (edge_of S a b p q vs f) (two_new (added S a b p q vs f) f (left_of S a b p q vs f) (right_of S a b p q vs f)) (filter (λ g. not (g == f)) S.faces ++ S.next_ids.face ∷ (S.next_ids.face + 1) ∷ []) 2
+    divided_covers (added S a b p q vs f) (edge_of S a b p q vs f) (two_new (added S a b p q vs f) f (left_ring S a b (p ∷ q ∷ vs) f) (right_ring S a b (p ∷ q ∷ vs) f)) (filter (λ g. not (g == f)) S.faces ++ S.next_ids.face ∷ (S.next_ids.face + 1) ∷ []) 2
     (record {
       parted = record {
         before = h.adds.after;
@@ -155,7 +151,7 @@ two_parts S a b p q vs f h n ringed =
         new_right = inr (not_listed S a b p q vs f (S.next_ids.face + 1) h (λ k. omega (arith, k)));
         kind = inl (n, (λ e. omega (arith, e, some)), (λ e. omega (arith, e)), rest_inner S a b p q vs f h n);
       };
-      lines = has_plain_lines (divided (added S a b p q vs f) (two_new (added S a b p q vs f) f (left_of S a b p q vs f) (right_of S a b p q vs f)) (filter (λ g. not (g == f)) S.faces ++ S.next_ids.face ∷ (S.next_ids.face + 1) ∷ []) 2) ringed.rings;
+      lines = has_plain_lines (divided (added S a b p q vs f) (two_new (added S a b p q vs f) f (left_ring S a b (p ∷ q ∷ vs) f) (right_ring S a b (p ∷ q ∷ vs) f)) (filter (λ g. not (g == f)) S.faces ++ S.next_ids.face ∷ (S.next_ids.face + 1) ∷ []) 2) ringed.rings;
       shells = λ g is na nb zero. let k = was_listed g is na nb in (k.0, others S a b p q vs f g h k.0 zero k.1);
       outer = λ m. outer_none S a b p q vs f h m;
       placed = added_placed S a b p q vs f h.adds;
@@ -183,13 +179,13 @@ two_parts S a b p q vs f h n ringed =
 -- ---- one part is new
 abbrev one_of : Drawing → NodeRow → NodeRow → Point → Point → List Point → ℕ → Bool → Division
 one_of S a b p q vs f k =
-    record { face = f; left_ring = left_of S a b p q vs f; right_ring = right_of S a b p q vs f; left_part = cond k f S.next_ids.face; right_part = cond k S.next_ids.face f }
+    record { face = f; left_ring = left_ring S a b (p ∷ q ∷ vs) f; right_ring = right_ring S a b (p ∷ q ∷ vs) f; left_part = cond k f S.next_ids.face; right_part = cond k S.next_ids.face f }
 
 abbrev Kind : Drawing → NodeRow → NodeRow → Point → Point → List Point → ℕ → Bool → Type 0
 Kind S a b p q vs f k =
     IsInner (added S a b p q vs f) (edge_of S a b p q vs f) (one_of S a b p q vs f k) ⊎ IsOuter (added S a b p q vs f) (edge_of S a b p q vs f) (one_of S a b p q vs f k)
 
-one_kind : (S : Drawing) (a b : NodeRow) (p q : Point) (vs : List Point) (f : ℕ) → AddsRing S a b p q vs f → (z s : Bool) → (f == 0) ≡ z → is_shell (left_of S a b p q vs f) ≡ s → Kind S a b p q vs f (z && not s)
+one_kind : (S : Drawing) (a b : NodeRow) (p q : Point) (vs : List Point) (f : ℕ) → AddsRing S a b p q vs f → (z s : Bool) → (f == 0) ≡ z → is_shell (left_ring S a b (p ∷ q ∷ vs) f) ≡ s → Kind S a b p q vs f (z && not s)
 one_kind S a b p q vs f h false s e g =
     let n = eqb-false f 0 e in
     let some = h.below 0 h.adds.before.ringed.universe in
@@ -234,14 +230,14 @@ neither f new g true na nb = (na, nb)
 neither f new g false na nb = (nb, na)
 
 pub one_part : (S : Drawing) (a b : NodeRow) (p q : Point) (vs : List Point) (f : ℕ) → AddsRing S a b p q vs f →
-    KeepsCovers S (divided (added S a b p q vs f) (one_new (added S a b p q vs f) f (left_of S a b p q vs f) (right_of S a b p q vs f)) (S.faces ++ S.next_ids.face ∷ []) 1)
+    IsRinged (divided (added S a b p q vs f) (one_new (added S a b p q vs f) f (left_ring S a b (p ∷ q ∷ vs) f) (right_ring S a b (p ∷ q ∷ vs) f)) (S.faces ++ S.next_ids.face ∷ []) 1) → Covers (divided (added S a b p q vs f) (one_new (added S a b p q vs f) f (left_ring S a b (p ∷ q ∷ vs) f) (right_ring S a b (p ∷ q ∷ vs) f)) (S.faces ++ S.next_ids.face ∷ []) 1)
 one_part S a b p q vs f h ringed =
-    divided_covers (added S a b p q vs f) (edge_of S a b p q vs f) (one_of S a b p q vs f (keeps_left f (left_of S a b p q vs f))) (S.faces ++ S.next_ids.face ∷ []) 1
+    divided_covers (added S a b p q vs f) (edge_of S a b p q vs f) (one_of S a b p q vs f (keeps_left f (left_ring S a b (p ∷ q ∷ vs) f))) (S.faces ++ S.next_ids.face ∷ []) 1
     (record {
-      parted = one_parted S a b p q vs f (keeps_left f (left_of S a b p q vs f)) h (one_kind S a b p q vs f h (f == 0) (is_shell (left_of S a b p q vs f)) refl refl);
-      lines = has_plain_lines (divided (added S a b p q vs f) (one_of S a b p q vs f (keeps_left f (left_of S a b p q vs f))) (S.faces ++ S.next_ids.face ∷ []) 1) ringed.rings;
+      parted = one_parted S a b p q vs f (keeps_left f (left_ring S a b (p ∷ q ∷ vs) f)) h (one_kind S a b p q vs f h (f == 0) (is_shell (left_ring S a b (p ∷ q ∷ vs) f)) refl refl);
+      lines = has_plain_lines (divided (added S a b p q vs f) (one_of S a b p q vs f (keeps_left f (left_ring S a b (p ∷ q ∷ vs) f))) (S.faces ++ S.next_ids.face ∷ []) 1) ringed.rings;
       shells = λ g is na nb zero.
-          let n = neither f S.next_ids.face g (keeps_left f (left_of S a b p q vs f)) na nb in
+          let n = neither f S.next_ids.face g (keeps_left f (left_ring S a b (p ∷ q ∷ vs) f)) na nb in
           (n.0, others S a b p q vs f g h n.0 zero (was_listed g is n.1));
       outer = λ m. outer_none S a b p q vs f h m;
       placed = added_placed S a b p q vs f h.adds;

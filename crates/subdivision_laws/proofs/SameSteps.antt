@@ -14,12 +14,11 @@ use Rattle.face_rings.proofs.HalvesApart.{half_of, forward_there, twin_there}
 use Rattle.parity_laws.specs.Steps.{above}
 use Rattle.parity_laws.specs.Rings.{In, Within, of_face}
 use Rattle.parity_laws.specs.Shelling.{OneShell, NoShell}
-use Rattle.parity_laws.proofs.CutList.{one_shell_faces, no_shell_faces}
-use Rattle.parity_laws.proofs.Labels.{those_same, sided_same}
+use Rattle.parity_laws.proofs.Labels.{those_same, sided_same, one_shell_faces, no_shell_faces}
 use Rattle.parity_laws.proofs.Rearranging.{Rearranged, same_above, same_sided, same_one_shell, same_no_shell}
 use Rattle.parity_laws.proofs.RearrangedOf.{rearranged_of}
 use Rattle.face_laws.specs.Walked.{steps_along, steps_of}
-use Rattle.face_laws.specs.Covered.{face_of, IsSided, IsPlaced, IsCovered}
+use Rattle.face_laws.specs.Covered.{face_of, IsSided, IsInFaceOf, IsCovered}
 use Rattle.face_laws.proofs.FaceOnLeft.{left_is}
 use Rattle.face_laws.proofs.LineSteps.{in_reverse, from_reverse}
 use Rattle.face_laws.proofs.PlainSteps.{steps_once, step_there, half_with, step_back}
@@ -30,7 +29,7 @@ pub record CarriesOver (S T : Drawing) : Type 0 where
   pub sided : IsSided S → IsSided T
   pub shells : (f : ℕ) → OneShell (steps_of S) (face_of S) f → OneShell (steps_of T) (face_of T) f
   pub outer : NoShell (steps_of S) (face_of S) 0 → NoShell (steps_of T) (face_of T) 0
-  pub placed : (p : Point) (f : ℕ) → IsPlaced S p f → IsPlaced T p f
+  pub placed : (p : Point) (f : ℕ) → IsInFaceOf S p f → IsInFaceOf T p f
 
 -- the drawing after it has the same faces, and each of its nodes with a face is one of those before
 pub covers_after : (S T : Drawing) → IsCovered S → CarriesOver S T → T.faces ≡ S.faces → ((n : NodeRow) (f : ℕ) → Contains T.nodes n → n.containing_face ≡ Some f → Contains S.nodes n) → Covers T

@@ -1,5 +1,5 @@
 -- Edges that are split: the steps are the same, or one of them is cut.
-use Rattle.std.proofs.Common.{◌≡◌, ℕ, refl, sym, ◌∙◌, ap, subst, append_assoc, ◌⊎◌, ⊎_elim, Bool, not, List, [], ◌∷◌, ◌++◌, Option, Some, None, ◌+◌, Ok}
+use Rattle.std.proofs.Common.{◌≡◌, ℕ, refl, sym, ◌∙◌, ap, subst, append_assoc, ◌⊎◌, ⊎_elim, List, [], ◌∷◌, ◌++◌}
 use Rattle.std.specs.List.{Contains}
 use Rattle.std.proofs.lemmas.Bool.Decides.{Decides-not}
 use Rattle.std.proofs.lemmas.List.Elements.{Contains-push, Contains-push_cases}
@@ -7,19 +7,14 @@ use Rattle.topo_base.specs.Point.{Point, same_point}
 use Rattle.topo_base.specs.declared.rows.NodeRow.{NodeRow}
 use Rattle.topo_base.specs.declared.rows.RelationRow.{RelationRow}
 use Rattle.topo_base.specs.declared.rows.Counters.{Counters}
-use Rattle.topo_base.specs.declared.rule.Rule.TheVariants.{NotOnEdge}
 use Rattle.drawing.specs.Drawing.{Drawing, Edge}
 use Rattle.drawing.specs.HalfEdge.{forward_of}
-use Rattle.plane.specs.Line.{segments_of, is_proper, is_inside_line, line_up_to, line_from}
+use Rattle.plane.specs.Line.{segments_of, is_proper, line_up_to, line_from}
 use Rattle.plane.specs.Relation.{SameCoordinates}
 use Rattle.plane.specs.Segment.{Segment}
 use Rattle.drawing.specs.SplitEdge.{first_part, second_part}
-use Rattle.drawing.specs.Edits.{split_edge, split_new, split_mod}
-use Rattle.drawing.specs.Change.{EdgeIsCut, EdgeIsCutAnew}
-use Rattle.drawing.proofs.Keeping.{Keeps, either, accepted, refused, refuses_else}
 use Rattle.plane.proofs.LineParts.{Cut, cut as cut_line}
 use Rattle.drawing.proofs.PlainSplits.{new_node, one_point}
-use Rattle.edit_changes.proofs.PlainStaying.{passed}
 use Rattle.plane.proofs.PointTests.{Decides-same_point}
 use Rattle.plane.proofs.Points.{point_straight, point_across, point_upward}
 use Rattle.plane.proofs.SegmentParts.{segment}
@@ -27,16 +22,16 @@ use Rattle.plane.proofs.SimpleTests.{no_element}
 use Rattle.face_rings.specs.FaceBorder.{HasRings}
 use Rattle.face_rings.proofs.FaceBorders.{has_plain_lines}
 use Rattle.face_rings.proofs.HalfLines.{HasPlainLines}
+use Rattle.ring_laws.specs.Ringed.{IsRinged}
 use Rattle.ring_laws.proofs.Known.{all_out}
 use Rattle.ring_laws.proofs.SplitSides.{IsSplitInto, split_with}
 use Rattle.parity_laws.specs.Cuts.{Inner}
 use Rattle.parity_laws.specs.Rings.{In}
 use Rattle.face_laws.specs.Covered.{IsCovered}
-use Rattle.face_laws.proofs.Lists.{in_front, in_behind, in_either}
-use Rattle.subdivision_laws.proofs.EditedEdges.{cut_of, both_new, one_changed}
-use Rattle.subdivision_laws.proofs.Covers.{KeepsCovers}
+use Rattle.subdivision_laws.proofs.Covers.{Covers}
 use Rattle.subdivision_laws.proofs.SameSteps.{CarriesOver, covers_after, own_steps, AreStepsOf, LiesAlong, same_steps}
 use Rattle.subdivision_laws.proofs.CutEdges.{edge_or_not, inside_segment}
+use Rattle.parity_laws.proofs.Lists.{in_left, in_right, in_cases}
 
 -- ---- the point is a vertex of the line
 record AtVertex (e : Edge) (p : Point) : Type 0 where
@@ -61,10 +56,10 @@ at_vertex S e p id id' fs rows ids good split more v = same_steps S T good more 
         ⊎_elim
         (λ (is : first_part e S.next_ids.node p id ≡ x).
         subst (λ (y : Edge). AreStepsOf S (forward_of y)) is
-        (λ s i. own_steps S e split.there s (subst (In s) (sym v.whole) (in_front s v.pre v.post (subst (In s) v.first i)))))
+        (λ s i. own_steps S e split.there s (subst (In s) (sym v.whole) (in_left s v.pre v.post (subst (In s) v.first i)))))
         (λ (is : second_part e S.next_ids.node p id' ≡ x).
         subst (λ (y : Edge). AreStepsOf S (forward_of y)) is
-        (λ s i. own_steps S e split.there s (subst (In s) (sym v.whole) (in_behind s v.pre v.post (subst (In s) v.second i)))))
+        (λ s i. own_steps S e split.there s (subst (In s) (sym v.whole) (in_right s v.pre v.post (subst (In s) v.second i)))))
         part)
         (split.from x c)
 
@@ -73,7 +68,7 @@ at_vertex S e p id id' fs rows ids good split more v = same_steps S T good more 
         ⊎_elim
         (λ (k : In s v.pre). own_steps T (first_part e S.next_ids.node p id) split.first s (subst (In s) (sym v.first) k))
         (λ (k : In s v.post). own_steps T (second_part e S.next_ids.node p id') split.second s (subst (In s) (sym v.second) k))
-        (in_either s v.pre v.post (subst (In s) v.whole i))
+        (in_cases s v.pre v.post (subst (In s) v.whole i))
 
     back_along : LiesAlong T S
     back_along x c =
@@ -124,7 +119,7 @@ parts_carry S e p id id' fs rows ids rings split more =
       not_end = λ q. far (ap (λ (z : Point). z.x) q, ap (λ (z : Point). z.y) q);
     }
 
-split_covers : (S : Drawing) (e : Edge) (p : Point) (id id' : ℕ) (fs : List Edge) (rows : List RelationRow) (ids : Counters) → IsCovered S → IsSplitInto S e p id id' fs → KeepsCovers S (split_with S p fs rows ids)
+pub split_covers : (S : Drawing) (e : Edge) (p : Point) (id id' : ℕ) (fs : List Edge) (rows : List RelationRow) (ids : Counters) → IsCovered S → IsSplitInto S e p id id' fs → IsRinged (split_with S p fs rows ids) → Covers (split_with S p fs rows ids)
 split_covers S e p id id' fs rows ids c split ringed =
     let T = split_with S p fs rows ids in
     covers_after S T c (parts_carry S e p id id' fs rows ids c.ringed.rings split (has_plain_lines T ringed.rings)) refl
@@ -133,13 +128,3 @@ split_covers S e p id id' fs rows ids c split ringed =
     (λ (old : Contains S.nodes n). old)
     (λ (new : new_node S.next_ids.node p ≡ n). absurd (no_element f (ap (λ (m : NodeRow). m.containing_face) new ∙ given)))
     (Contains-push_cases S.nodes (new_node S.next_ids.node p) n i))
-
--- ---- the edits
-pub split : (anew : Bool) (S : Drawing) (e : Option Edge) (p : Point) → IsCovered S → ((x : Edge) → e ≡ Some x → Contains S.edges x) → Keeps KeepsCovers S (split_edge anew S e p)
-split anew S None p c ce = refused KeepsCovers S _
-split anew S (Some e) p c ce =
-    refuses_else KeepsCovers S (not (is_inside_line p e.geom)) NotOnEdge _ (λ inside.
-    let parted = cut_of e p (passed (is_inside_line p e.geom) inside) in
-    either KeepsCovers S anew (Ok (EdgeIsCutAnew e p)) (Ok (EdgeIsCut e p))
-    (accepted KeepsCovers S _ (split_covers S e p S.next_ids.edge (S.next_ids.edge + 1) _ _ _ c (both_new S e p (ce e refl) parted)))
-    (accepted KeepsCovers S _ (split_covers S e p e.edge_id S.next_ids.edge _ _ _ c (one_changed S e p (has_plain_lines S c.ringed.rings) (ce e refl) parted))))

@@ -1,79 +1,75 @@
--- Each edit keeps a drawing a planar subdivision.
-use Rattle.std.proofs.Common.{◌≡◌, ◌≤◌, ℕ, refl, sym, ⊎_elim, true, false, ◌&&◌, ◌||◌, ◌==◌, List, [], ◌∷◌, length, Some, Ok, Err}
-use Rattle.std.specs.Prelude.{nat_le, is_ok}
-use Rattle.std.specs.List.{Contains, list_all}
-use Rattle.std.proofs.lemmas.Bool.{and_parts, and_from, or_cases, eqb-true, leb-true}
+-- Each edit keeps a drawing a planar subdivision, by changes.
+use Rattle.std.proofs.Common.{◌≡◌, ◌≤◌, ℕ, sym, ⊎_elim, true, false, ◌||◌, ◌==◌, ◌+◌, List, length}
+use Rattle.std.specs.Prelude.{nat_le}
+use Rattle.std.proofs.lemmas.Bool.{and_parts, or_cases, eqb-true, leb-true}
 use Rattle.topo_base.specs.Point.{Point}
 use Rattle.topo_base.specs.declared.edit.Edit.{Edit}
-use Rattle.topo_base.specs.declared.edit.Edit.TheVariants.{AddIsoNode, MoveIsoNode, RemoveIsoNode, AddIsoEdge, RemoveIsoEdge, AddEdgeModFace, AddEdgeNewFaces, RemEdgeModFace, RemEdgeNewFace, ModEdgeSplit, NewEdgesSplit, ModEdgeHeal, NewEdgeHeal, AddLayer, CreateTopoGeom, AddElement, RemElement, DropFeature}
-use Rattle.topo_base.specs.declared.edit.Entry.{Entry}
-use Rattle.topo_base.specs.declared.rows.NodeRow.{NodeRow}
-use Rattle.drawing.specs.Drawing.{Drawing, Edge, nothing_drawn, node_at, edge_at, layer_at, feature_at, node_id_of, edge_id_of}
+use Rattle.topo_base.specs.declared.rows.Counters.{Counters}
+use Rattle.topo_base.specs.declared.rows.FeatureRow.{FeatureRow}
+use Rattle.topo_base.specs.declared.rows.LayerRow.{LayerRow}
+use Rattle.topo_base.specs.declared.rows.RelationRow.{RelationRow}
 use Rattle.drawing.specs.Accepted.{keeps_limits, is_line_short}
-use Rattle.drawing.specs.Outcome.{Outcome}
-use Rattle.drawing.specs.Replay.{drawing_of, after, after_all, edits_of}
-use Rattle.drawing.specs.Step.{step}
-use Rattle.drawing.specs.Subdivision.{IsSubdivision, ids_in_order}
-use Rattle.drawing.proofs.Keeping.{Keeps}
+use Rattle.drawing.specs.Apply.{apply}
+use Rattle.drawing.specs.Change.{Change, NodeComes, NodeMoves, NodeGoes, EdgeComes, FaceIsDivided, FaceIsDividedAnew, LoneEdgeGoes, EdgeGoes, FacesJoin, FacesJoinAnew, EdgeIsCut, EdgeIsCutAnew, EdgesAreJoined, EdgesAreJoinedAnew, LayerComes, FeatureComes, FeatureLists, FeatureUnlists, FeatureGoes}
+use Rattle.drawing.specs.Drawing.{Drawing, nothing_drawn}
+use Rattle.drawing.specs.Replay.{after}
+use Rattle.drawing.specs.Subdivision.{IsSubdivision}
 use Rattle.plane.proofs.ListTests.{contains_none}
-use Rattle.drawing.proofs.Members.{contains-found}
+use Rattle.edit_changes.specs.Evidence.{IsDecided, is_within}
+use Rattle.edit_changes.proofs.Histories.{after_within, after_edits, in_histories}
 use Rattle.ring_laws.specs.Ringed.{IsRinged}
 use Rattle.reference_laws.proofs.ReferencesStaying.{references_stay}
 use Rattle.face_laws.specs.Covered.{IsCovered}
 use Rattle.face_laws.proofs.Covering.{covered_faced}
 use Rattle.face_laws.proofs.ShellsListed.{shells_listed}
 use Rattle.subdivision_laws.specs.Subdivided.{IsSubdivided, SubdivisionsStay}
-use Rattle.subdivision_laws.proofs.Covers.{Covers, KeepsCovers, covered, covers}
-use Rattle.subdivision_laws.proofs.AddedShells.{lone_edge}
-use Rattle.subdivision_laws.proofs.EdgesAdded.{new_edge}
-use Rattle.subdivision_laws.proofs.EdgesGone.{gone_edge}
-use Rattle.subdivision_laws.proofs.HealsStay.{heals}
+use Rattle.subdivision_laws.proofs.Covers.{Covers, covered, covers}
+use Rattle.subdivision_laws.proofs.EdgesAdded.{edge_comes, face_is_divided, face_is_divided_anew}
+use Rattle.subdivision_laws.proofs.EdgesGone.{edge_goes, faces_join, faces_join_anew}
+use Rattle.subdivision_laws.proofs.HealsStay.{healed_covers}
 use Rattle.subdivision_laws.proofs.LoneEdgeGone.{lone_edge_less}
-use Rattle.subdivision_laws.proofs.RingAdded.{faces_in_order}
-use Rattle.subdivision_laws.proofs.SplitsStay.{split}
-use Rattle.subdivision_laws.proofs.LayersStay.{layer, feature, element, less_element, gone_feature}
 use Rattle.subdivision_laws.proofs.NodesStay.{node_more, node_elsewhere, node_less}
-use Rattle.edit_changes.proofs.Histories.{after_edits, in_histories}
+use Rattle.subdivision_laws.proofs.RingAdded.{FacesBelow, faces_below, faces_in_order}
+use Rattle.subdivision_laws.proofs.SplitsStay.{split_covers}
+use Rattle.ring_laws.proofs.EdgesCut.{both_new, one_changed}
+use Rattle.ring_laws.proofs.EdgesJoin.{joined_anew, joined_changed}
+use Rattle.ring_laws.proofs.RingedDrawings.{before_of}
 
--- ---- each edit
-found : (S : Drawing) (n : ℕ) (row : NodeRow) → node_at S n ≡ Some row → Contains S.nodes row
-found S n row e = (contains-found (λ (r : NodeRow). node_id_of r == n) row S.nodes e).0
-
-found_edge : (S : Drawing) (n : ℕ) (row : Edge) → edge_at S n ≡ Some row → Contains S.edges row
-found_edge S n row e = (contains-found (λ (r : Edge). edge_id_of r == n) row S.edges e).0
-
+-- ---- each change
 line_long : (line : List Point) → is_line_short line ≡ true → 2 ≤ length line
 line_long line h = leb-true 2 (length line) (and_parts (nat_le 2 (length line)) (nat_le (length line) 4096) h).0
 
-drawing_covers : (S : Drawing) (x : Outcome) → IsCovered S → Keeps KeepsCovers S x → IsRinged (drawing_of S x) → Covers (drawing_of S x)
-unfolding Keeps
-drawing_covers S (Ok done) c k ringed = k ringed
-drawing_covers S (Err rule) c k ringed = covers S c
+-- nodes, edges and faces are as they were
+aside : (S : Drawing) (layers : List LayerRow) (features : List FeatureRow) (relations : List RelationRow) (ids : Counters) → IsCovered S
+    → Covers (record S { layers = layers; features = features; relations = relations; next_ids = ids })
+aside S layers features relations ids c = record { sided = c.sided; shells = c.shells; outer = c.outer; placed = c.placed }
 
-after_covers : (S : Drawing) (e : Edit) → keeps_limits e ≡ true → ids_in_order S ≡ true → IsCovered S → IsRinged (after S e) → Covers (after S e)
-after_covers S (AddIsoNode face p) limits ids c ringed = drawing_covers S _ c (node_more S face p c) ringed
-after_covers S (MoveIsoNode n p) limits ids c ringed = drawing_covers S _ c (node_elsewhere S (node_at S n) p c (found S n)) ringed
-after_covers S (RemoveIsoNode n) limits ids c ringed = drawing_covers S _ c (node_less S (node_at S n) c) ringed
-after_covers S (AddIsoEdge a b line) limits ids c ringed = drawing_covers S _ c (lone_edge S (node_at S a) (node_at S b) line c (line_long line limits) (found S a)) ringed
-after_covers S (RemoveIsoEdge e) limits ids c ringed = drawing_covers S _ c (lone_edge_less S (edge_at S e) c (found_edge S e)) ringed
-after_covers S (AddEdgeModFace a b line) limits ids c ringed = drawing_covers S _ c (new_edge false S (node_at S a) (node_at S b) line c (faces_in_order S ids) (line_long line limits) (found S a) (found S b)) ringed
-after_covers S (AddEdgeNewFaces a b line) limits ids c ringed = drawing_covers S _ c (new_edge true S (node_at S a) (node_at S b) line c (faces_in_order S ids) (line_long line limits) (found S a) (found S b)) ringed
-after_covers S (RemEdgeModFace e) limits ids c ringed = drawing_covers S _ c (gone_edge false S (edge_at S e) c (faces_in_order S ids) (found_edge S e)) ringed
-after_covers S (RemEdgeNewFace e) limits ids c ringed = drawing_covers S _ c (gone_edge true S (edge_at S e) c (faces_in_order S ids) (found_edge S e)) ringed
-after_covers S (AddLayer name kind child) limits ids c ringed = drawing_covers S _ c (layer S name kind child c) ringed
-after_covers S (CreateTopoGeom l xs) limits ids c ringed = drawing_covers S _ c (feature S (layer_at S l) xs c) ringed
-after_covers S (AddElement t id type) limits ids c ringed = drawing_covers S _ c (element S (feature_at S t) (record { id = id; element_type = type }) c) ringed
-after_covers S (RemElement t id type) limits ids c ringed = drawing_covers S _ c (less_element S (feature_at S t) (record { id = id; element_type = type }) c) ringed
-after_covers S (DropFeature t) limits ids c ringed = drawing_covers S _ c (gone_feature S (feature_at S t) c) ringed
-after_covers S (ModEdgeSplit e p) limits ids c ringed = drawing_covers S _ c (split false S (edge_at S e) p c (found_edge S e)) ringed
-after_covers S (NewEdgesSplit e p) limits ids c ringed = drawing_covers S _ c (split true S (edge_at S e) p c (found_edge S e)) ringed
-after_covers S (ModEdgeHeal e f) limits ids c ringed = drawing_covers S _ c (heals false S (edge_at S e) (edge_at S f) c (found_edge S e) (found_edge S f)) ringed
-after_covers S (NewEdgeHeal e f) limits ids c ringed = drawing_covers S _ c (heals true S (edge_at S e) (edge_at S f) c (found_edge S e) (found_edge S f)) ringed
+change_covers : (S : Drawing) (c : Change) → IsDecided S c → is_within c ≡ true → FacesBelow S → IsCovered S → IsRinged ((apply S c).drawing) → Covers ((apply S c).drawing)
+change_covers S (NodeComes face p) k w below h ringed = node_more S face p k h
+change_covers S (NodeMoves n p) k w below h ringed = node_elsewhere S n p k h
+change_covers S (NodeGoes n) k w below h ringed = node_less S n h
+change_covers S (EdgeComes a b line face) k w below h ringed = edge_comes S a b line face k (line_long line w) h
+change_covers S (FaceIsDivided a b line d) k w below h ringed = face_is_divided S a b line d k.0 k.1 (line_long line w) below h ringed
+change_covers S (FaceIsDividedAnew a b line d) k w below h ringed = face_is_divided_anew S a b line d k.0 k.1 k.2 (line_long line w) below h ringed
+change_covers S (LoneEdgeGoes e) k w below h ringed = lone_edge_less S e k h ringed
+change_covers S (EdgeGoes e) k w below h ringed = edge_goes S e k.0 k.1 h ringed
+change_covers S (FacesJoin e kept goes) k w below h ringed = faces_join S e kept goes k.0 k.1 k.2 h ringed
+change_covers S (FacesJoinAnew e) k w below h ringed = faces_join_anew S e k.0 k.1 k.2 below h ringed
+change_covers S (EdgeIsCut e p) k w below h ringed = split_covers S e p e.edge_id S.next_ids.edge _ _ _ h (one_changed S e p k (before_of S h.ringed)) ringed
+change_covers S (EdgeIsCutAnew e p) k w below h ringed = split_covers S e p S.next_ids.edge (S.next_ids.edge + 1) _ _ _ h (both_new S e p k (before_of S h.ringed)) ringed
+change_covers S (EdgesAreJoined e f n) k w below h ringed = healed_covers S n e f e.edge_id _ _ _ h (joined_changed S n e f k (before_of S h.ringed)) ringed
+change_covers S (EdgesAreJoinedAnew e f n) k w below h ringed = healed_covers S n e f S.next_ids.edge _ _ _ h (joined_anew S n e f k) ringed
+change_covers S (LayerComes name kind child level) k w below h ringed = aside S _ S.features S.relations _ h
+change_covers S (FeatureComes layer xs) k w below h ringed = aside S S.layers _ _ _ h
+change_covers S (FeatureLists row) k w below h ringed = aside S S.layers S.features _ S.next_ids h
+change_covers S (FeatureUnlists row) k w below h ringed = aside S S.layers S.features _ S.next_ids h
+change_covers S (FeatureGoes t) k w below h ringed = aside S S.layers _ _ S.next_ids h
 
 edit_keeps : (S : Drawing) (e : Edit) → keeps_limits e ≡ true → IsSubdivided S → IsSubdivided (after S e)
 edit_keeps S e limits h =
     let known = references_stay.each_kept S e limits h.referenced in
-    record { referenced = known; covered = covered (after S e) known.rings (after_covers S e limits h.referenced.ids h.covered known.rings) }
+    let keeps = after_within (λ T. IsRinged T → Covers T) S e limits (λ c k w. change_covers S c k w (faces_below S (faces_in_order S h.referenced.ids)) h.covered) (λ _. covers S h.covered) in
+    record { referenced = known; covered = covered (after S e) known.rings (keeps known.rings) }
 
 -- ---- a subdivision
 is_subdivision : (S : Drawing) → IsSubdivided S → IsSubdivision S

@@ -2,7 +2,7 @@
 use Rattle.std.proofs.Common.{◌≡◌, ℕ, ◌≤◌, refl, sym, ◌∙◌, ap, subst, arith, ◌⊎◌, inl, inr, ⊎_elim, Bool, true, false, cond, List, [], ◌∷◌, ◌++◌, length}
 use Rattle.std.specs.Prelude.{reverse, flat_map, ◌==◌}
 use Rattle.std.specs.List.{Contains}
-use Rattle.std.proofs.lemmas.Bool.{or_left, or_right, eqb-true, eq-eqb, false≢true}
+use Rattle.std.proofs.lemmas.Bool.{eqb-true, eq-eqb, false≢true}
 use Rattle.std.proofs.lemmas.List.{length-append, length-reverse, reverse-reverse}
 use Rattle.topo_base.specs.Point.{Point}
 use Rattle.plane.specs.Direction.{first_direction, is_nearer}
@@ -13,10 +13,8 @@ use Rattle.plane.specs.Line.{first_vertex, last_vertex, without_first, joined}
 use Rattle.drawing.specs.Star.{leaving}
 use Rattle.plane.proofs.Directions.{nearer_self}
 use Rattle.plane.proofs.LineTurns.{last-reverse}
-use Rattle.drawing.proofs.PlainParts.{HasPoint}
-use Rattle.drawing.proofs.PlainSplits.{one_point, id_point}
 use Rattle.face_rings.proofs.HalfLines.{HasPlainLines}
-use Rattle.face_rings.proofs.HalvesApart.{half_of, forward_there, backward_there, line_of, one_edge}
+use Rattle.face_rings.proofs.HalvesApart.{half_of, forward_there, backward_there, line_of, one_edge, one_start}
 use Rattle.face_rings.proofs.Ranks.{by_bool}
 use Rattle.ring_laws.proofs.KnownStays.{end_is}
 use Rattle.ring_laws.proofs.SplitSides.{first_of_some, from_end}
@@ -42,7 +40,7 @@ end_of_joined l (a ∷ b ∷ rest) h k e =
     ap (λ ps. first_direction (reverse ps)) is ∙ end_of_more front (a ∷ b ∷ rest) (omega arith)
 
 -- ---- two half-edges alone at a node
-pair_turns : (hs : List HalfEdge) (a b : HalfEdge) (n : ℕ) → Contains hs a → Contains hs b → a.from_node ≡ n → b.from_node ≡ n → (b ≡ a → ⊥) → ((k : HalfEdge) → Contains hs k → k.from_node ≡ n → (k ≡ a) ⊎ (k ≡ b)) → Turns hs a b
+pub pair_turns : (hs : List HalfEdge) (a b : HalfEdge) (n : ℕ) → Contains hs a → Contains hs b → a.from_node ≡ n → b.from_node ≡ n → (b ≡ a → ⊥) → ((k : HalfEdge) → Contains hs k → k.from_node ≡ n → (k ≡ a) ⊎ (k ≡ b)) → Turns hs a b
 pair_turns hs a b n ca cb at bt differ each = record {
   first = ca;
   second = cb;
@@ -86,29 +84,6 @@ pub second_there : (edges : List Edge) (x : Edge) (h k : HalfEdge) → Contains 
 second_there edges x h k c (inl b) = subst (Contains (flat_map both_ways edges)) b.1 (backward_there edges x c)
 second_there edges x h k c (inr b) = subst (Contains (flat_map both_ways edges)) b.1 (forward_there edges x c)
 
-pub end_of_both : (x : Edge) (h k : HalfEdge) (m : ℕ) → AreBoth x h k → is_end_of m x ≡ true → (h.from_node ≡ m) ⊎ (k.from_node ≡ m)
-end_of_both x h k m b t = by_way b (end_is m x t)
-  where
-    by_way : AreBoth x h k → (x.start_node ≡ m) ⊎ (x.end_node ≡ m) → (h.from_node ≡ m) ⊎ (k.from_node ≡ m)
-    by_way (inl b) (inl p) = inl (ap (λ (z : HalfEdge). z.from_node) (sym b.0) ∙ p)
-    by_way (inl b) (inr p) = inr (ap (λ (z : HalfEdge). z.from_node) (sym b.1) ∙ p)
-    by_way (inr b) (inl p) = inr (ap (λ (z : HalfEdge). z.from_node) (sym b.1) ∙ p)
-    by_way (inr b) (inr p) = inl (ap (λ (z : HalfEdge). z.from_node) (sym b.0) ∙ p)
-
-start_end : (x : Edge) (m : ℕ) → x.start_node ≡ m → is_end_of m x ≡ true
-start_end x m p = or_left (x.start_node == m) (x.end_node == m) (eq-eqb x.start_node m p)
-
-end_end : (x : Edge) (m : ℕ) → x.end_node ≡ m → is_end_of m x ≡ true
-end_end x m p = or_right (x.start_node == m) (x.end_node == m) (eq-eqb x.end_node m p)
-
-pub first_ends : (x : Edge) (h k : HalfEdge) → AreBoth x h k → is_end_of h.from_node x ≡ true
-first_ends x h k (inl b) = start_end x h.from_node (ap (λ (z : HalfEdge). z.from_node) b.0)
-first_ends x h k (inr b) = end_end x h.from_node (ap (λ (z : HalfEdge). z.from_node) b.0)
-
-pub second_ends : (x : Edge) (h k : HalfEdge) → AreBoth x h k → is_end_of k.from_node x ≡ true
-second_ends x h k (inl b) = end_end x k.from_node (ap (λ (z : HalfEdge). z.from_node) b.1)
-second_ends x h k (inr b) = start_end x k.from_node (ap (λ (z : HalfEdge). z.from_node) b.1)
-
 -- the half-edge up to the node and the one from it on, and the two half-edges of the joined edge
 pub record Joint (S : Drawing) (n : ℕ) (e f : Edge) (J : Edge) : Type 0 where
   pub up : HalfEdge
@@ -147,12 +122,6 @@ away_is n f t = by_test (f.start_node == n) refl (end_is n f t)
     by_test false e (inl p) = absurd (false≢true (sym e ∙ eq-eqb f.start_node n p))
     by_test false e (inr p) = record { from = p; both = inr (refl, twin_back f) }
 
--- the points of the two lines at the node are one
-meeting_point : (S : Drawing) (n m : ℕ) (p r : Point) → HasPlainLines S → n ≡ m → HasPoint S.nodes n p → HasPoint S.nodes m r → p ≡ r
-meeting_point S n m p r good same (row, (c, (is, at))) there =
-    let other = id_point S.nodes row m r good.node_ids c (is ∙ same) there in
-    one_point p r (sym at.0 ∙ other.0, sym at.1 ∙ other.1)
-
 pub make_joint : (S : Drawing) (n : ℕ) (e f : Edge) (id : ℕ) (fs : List Edge) → HasPlainLines S → IsHealed S n e f id fs → Joint S n e f (joined_edge n e f id)
 make_joint S n e f id fs good h = by_end (n == e.end_node) refl
   where
@@ -168,7 +137,7 @@ make_joint S n e f id fs good h = by_end (n == e.end_node) refl
         let fit = good.plain.fit e h.e_there in
         let long = good.long e h.e_there in
         let at_end : n ≡ e.end_node = eqb-true n e.end_node t in
-        let meets = meeting_point S e.end_node ((away_from n f).from_node) (last_vertex e.geom) (first_vertex ((away_from n f).points)) good (sym at_end ∙ sym away.from) fit.ends line.starts in
+        let meets = one_start S e.end_node ((away_from n f).from_node) (last_vertex e.geom) (first_vertex ((away_from n f).points)) good (sym at_end ∙ sym away.from) fit.ends line.starts in
         let J : Edge = record e { edge_id = id; end_node = (away_from n f).to_node; geom = joined e.geom ((away_from n f).points) } in
         record {
           up = forward_of e;
@@ -198,7 +167,7 @@ make_joint S n e f id fs good h = by_end (n == e.end_node) refl
         let fit = good.plain.fit e h.e_there in
         let long = good.long e h.e_there in
         let at_start : e.start_node ≡ n = ⊎_elim (λ (p : e.start_node ≡ n). p) (λ (p : e.end_node ≡ n). absurd (false≢true (sym t ∙ eq-eqb n e.end_node (sym p)))) (end_is n e h.at_e) in
-        let meets = meeting_point S ((away_from n f).from_node) e.start_node (first_vertex ((away_from n f).points)) (first_vertex e.geom) good (away.from ∙ sym at_start) line.starts fit.starts in
+        let meets = one_start S ((away_from n f).from_node) e.start_node (first_vertex ((away_from n f).points)) (first_vertex e.geom) good (away.from ∙ sym at_start) line.starts fit.starts in
         let turned : 2 ≤ length (reverse ((away_from n f).points)) = subst (λ k. 2 ≤ k) (sym (length-reverse ((away_from n f).points))) line.long in
         let J : Edge = record e { edge_id = id; start_node = (away_from n f).to_node; geom = joined (reverse ((away_from n f).points)) e.geom } in
         record {
