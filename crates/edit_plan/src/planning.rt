@@ -57,12 +57,26 @@ fn edited<L: Ledger>(
         Edit::CreateTopoGeom { layer, elements } => {
             create(alloc, on, *layer, elements.pairs(), steps)
         }
-        Edit::AddElement { feature, id, element_type } => {
-            let pair = Pair { id: *id, element_type: *element_type };
+        Edit::AddElement {
+            feature,
+            id,
+            element_type,
+        } => {
+            let pair = Pair {
+                id: *id,
+                element_type: *element_type,
+            };
             add_element(alloc, on, *feature, pair, steps)
         }
-        Edit::RemElement { feature, id, element_type } => {
-            let pair = Pair { id: *id, element_type: *element_type };
+        Edit::RemElement {
+            feature,
+            id,
+            element_type,
+        } => {
+            let pair = Pair {
+                id: *id,
+                element_type: *element_type,
+            };
             remove_element(alloc, on, *feature, pair, steps)
         }
         Edit::DropFeature { feature } => drop_feature(alloc, on, *feature, steps),

@@ -9,8 +9,6 @@
 mod changes;
 mod excerpt;
 mod places;
-#[cfg(test)]
-mod relation_tests;
 mod relations;
 mod reserve;
 mod row;
