@@ -1,6 +1,6 @@
 //! The printed words of edits, answers, rules and parts of rows.
 //!
-//! It stands on `topo_io` for decimals and on `topo_model` for the texts. It promises that what is appended
+//! It stands on `topo_io` for decimals and on `script_model` for the texts. It promises that what is appended
 //! is exactly the definition's text. Whole rows are left to `table_print`.
 #![tactic(auto)]
 

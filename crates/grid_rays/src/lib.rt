@@ -1,7 +1,7 @@
 //! What a ray straight up from a point crosses, and closed walks of grid points: their top vertex,
 //! whether a walk is a shell or a hole, and whether a point is inside. Stands on the sides of
 //! `grid_segments`, the order of directions of `grid_angle`, and the crossings and rings of
-//! `topo_model`. Each answer is exact, and no call takes memory. Which half-edges make up a ring is
+//! `plane`. Each answer is exact, and no call takes memory. Which half-edges make up a ring is
 //! left to others.
 #![tactic(auto)]
 

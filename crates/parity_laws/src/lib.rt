@@ -2,7 +2,7 @@
 //!
 //! A step is a segment walked from one end to the other, and a drawing is the list of all its steps, each in
 //! both directions; a face is the sum of its rings modulo 2. It stands on the points and segments of
-//! `topo_base` and on the definitions of `topo_model`. It promises how parities go along ways, round corners,
+//! `topo_base` and on the definitions of `plane`. It promises how parities go along ways, round corners,
 //! across steps and over cuts, and what follows for rings, shells and faces, where steps meet at their ends
 //! alone. That the drawing of a history is such a list, with its faces on the left of their steps, is left to
 //! the laws of faces.

@@ -1,6 +1,6 @@
 //! Scripts: the grammar of their lines, the names that they bind, and the edits that they give.
 //!
-//! It stands on `topo_model`, whose definition of the grammar is over bytes. It promises that a text is
+//! It stands on `script_model`, whose definition of the grammar is over bytes. It promises that a text is
 //! read as the one script that it spells, or that its first bad line is named, and that a name stands for
 //! the id to which it was bound last. Whether an edit is accepted is left to the crates above.
 #![tactic(auto)]

@@ -14,7 +14,7 @@ pub fn adoption_law()
 {}
 
 /// A journal of bodies, read by the test that takes the spellings of entries that may follow, is the journal of
-/// entries that `topo_model` defines: the same bytes are good, for the same entries, and the same offset is bad. The
+/// entries that `history_model` defines: the same bytes are good, for the same entries, and the same offset is bad. The
 /// test takes the spelling of an entry exactly where the entry may follow. And the frame of an entry, as defined there,
 /// is one that `append` takes.
 pub fn entries_law()
