@@ -1,0 +1,11 @@
+pub mod Told
+pub mod Levels
+pub mod Areal
+pub mod Primitive
+pub mod NodeEdits
+pub mod FeatureEdits
+pub mod CutParity
+pub mod Follow
+pub mod OneMore
+pub mod EdgeComes
+pub mod SplitEdits

@@ -1,0 +1,2 @@
+//! Laws of the points of features.
+#![tactic(auto)]
