@@ -96,10 +96,10 @@ line_odd p line q c =
     at_end a b d = simp summing
 
 -- ---- the borders, edge by edge
-pub weight : ℕ → RationalPoint → Edge → Bool
+unfoldable pub weight : ℕ → RationalPoint → Edge → Bool
 weight g q e = cond (is_border g e) (is_odd_over_at q (segments_of e.geom)) false
 
-pub total : ℕ → RationalPoint → List Edge → Bool
+unfoldable pub total : ℕ → RationalPoint → List Edge → Bool
 total g q [] = false
 total g q (e ∷ es) = xor (weight g q e) (total g q es)
 

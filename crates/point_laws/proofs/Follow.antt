@@ -1,5 +1,5 @@
 -- What a feature lists after its rows have followed elements that changed.
-use Rattle.std.proofs.Common.{◌≡◌, ◌∙◌, ℕ, refl, sym, ap, subst, ◌⊎◌, inl, inr, ⊎_elim, Bool, true, false, cond, ◌&&◌, ◌==◌, eq-eqb, eqb-true, List, [], ◌∷◌, ◌++◌, map, filter}
+use Rattle.std.proofs.Common.{◌≡◌, ◌∙◌, ℕ, zero, suc, refl, sym, ap, subst, ◌⊎◌, inl, inr, ⊎_elim, Bool, true, false, cond, ◌&&◌, ◌==◌, eq-eqb, eqb-true, List, [], ◌∷◌, ◌++◌, map, filter}
 use Rattle.std.specs.Prelude.{◌↔◌, flat_map}
 use Rattle.std.specs.List.{Contains}
 use Rattle.std.proofs.lemmas.Bool.{and_from, and_parts, false≢true}
@@ -12,7 +12,12 @@ use Rattle.drawing.proofs.Members.{contains-filter, contains-filtered, contains-
 use Rattle.relation_rows.proofs.Order.{same_element, same_topogeo}
 use Rattle.reference_laws.proofs.Followed.{Came, in_ordered}
 use Rattle.reference_laws.proofs.Followed.Came.{Stayed, Replaced}
+use Rattle.topo_base.specs.Kinds.{kind_number}
+use Rattle.topo_base.specs.declared.kind.Kind.{Kind}
+use Rattle.reference_laws.proofs.KnownRows.{KnowsRows}
+use Rattle.point_laws.proofs.Levels.{HasLevel, above_rows}
 use Rattle.point_laws.proofs.NodeEdits.{in_front}
+use Rattle.point_laws.proofs.Primitive.{above_kind, other_kind, rows_list}
 
 -- ---- rows that are put in order
 record IsKept (rows : List RelationRow) (r : RelationRow) : Type 0 where
@@ -162,3 +167,10 @@ listed_anew S type old new u w lists =
         follows_row S type old new u w l.row (record (l.row) { element_id = w }) l.there
         (subst (λ (b : Bool). Contains (cond b (with_elements new l.row) (l.row ∷ [])) (record (l.row) { element_id = w })) (sym all) (contains-map (λ id. record (l.row) { element_id = id }) w new d))
         l.of refl
+
+-- ---- features that list other elements, and those above others
+pub above_same_rows : (S : Drawing) (type : ℕ) (old new : List ℕ) (kind : Kind) (n u w : ℕ) → KnowsRows S → HasLevel S kind (suc n) u → Contains (listed_in S.relations u) w ↔ Contains (listed_in (follow S type old new) u) w
+above_same_rows S type old new kind n u w knows k = listed_same S type old new u w (λ r c of. above_kind S type r (is_among r.element_id old) (above_rows S kind n u knows k r c of))
+
+pub other_same_rows : (S : Drawing) (type : ℕ) (old new : List ℕ) (kind : Kind) (u w : ℕ) → KnowsRows S → (kind_number kind == type) ≡ false → HasLevel S kind zero u → Contains (listed_in S.relations u) w ↔ Contains (listed_in (follow S type old new) u) w
+other_same_rows S type old new kind u w knows differ k = listed_same S type old new u w (λ r c of. other_kind S (kind_number kind) type r (is_among r.element_id old) differ (rows_list S kind u knows k r c of))

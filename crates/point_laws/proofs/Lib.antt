@@ -7,5 +7,8 @@ pub mod FeatureEdits
 pub mod CutParity
 pub mod Follow
 pub mod OneMore
+pub mod JoinedParity
+pub mod EdgePoints
 pub mod EdgeComes
+pub mod FaceDivided
 pub mod SplitEdits

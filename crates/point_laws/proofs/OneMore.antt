@@ -66,7 +66,7 @@ pub record HasOneMore (S T : Drawing) (e : Edge) (name : ℕ → ℕ) (f : ℕ) 
   pub on : (q : RationalPoint) → IsOnEdge q e → (IsOffEdges S q × IsTrue (is_in S f q)) ⊎ OnSides S (f ∷ []) q
 
 -- these faces of T are those of S by their names
-pub AreNamed : Drawing → (ℕ → ℕ) → List ℕ → List ℕ → Type 0
+abbrev pub AreNamed : Drawing → (ℕ → ℕ) → List ℕ → List ℕ → Type 0
 AreNamed T name xs ys = (g : ℕ) → IsTrue (has_face T g) → (is_among (name g) xs ≡ true) ↔ (is_among g ys ≡ true)
 
 only_one : (f g : ℕ) (ids : List ℕ) → is_among f ids ≡ true → is_among g (f ∷ []) ≡ true → is_among g ids ≡ true
@@ -77,7 +77,6 @@ either_of a b c d xs ys one two k =
     ⊎_elim (λ (l : is_among a xs ≡ true). or_left (is_among c ys) (is_among d ys) (one l)) (λ (r : is_among b xs ≡ true). or_right (is_among c ys) (is_among d ys) (two r)) (or_cases (is_among a xs) (is_among b xs) k)
 
 area_more : (S T : Drawing) (e : Edge) (name : ℕ → ℕ) (f : ℕ) (xs ys : List ℕ) (q : RationalPoint) → IsSubdivided S → IsSubdivided T → HasOneMore S T e name f → AreNamed T name xs ys → InArea S xs q → InArea T ys q
-unfolding AreNamed
 area_more S T e name f xs ys q s t h lists (inr (x, (cx, sides, on))) =
     let (y, (cy, r)) = h.more x cx in
     let listed = (known T t.covered.ringed).sides y cy in
@@ -109,7 +108,6 @@ area_more S T e name f xs ys q s t h lists (inl (off, (g, (among, inside)))) = �
         inl (off_T not_on, (k, ((lists k face).0 (subst (λ m. is_among m xs ≡ true) (sym is) among), own)))
 
 area_less : (S T : Drawing) (e : Edge) (name : ℕ → ℕ) (f : ℕ) (xs ys : List ℕ) (q : RationalPoint) → IsSubdivided T → HasOneMore S T e name f → AreNamed T name xs ys → InArea T ys q → InArea S xs q
-unfolding AreNamed
 area_less S T e name f xs ys q t h lists (inl (off, (g, (among, inside)))) =
     let (k, (only, face)) = only_face T q t in
     let is : g ≡ k = in_out T q g k only face inside in

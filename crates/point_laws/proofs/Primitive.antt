@@ -1,5 +1,5 @@
 -- What a feature without children lists: elements of its kind that are there.
-use Rattle.std.proofs.Common.{◌≡◌, ◌∙◌, ℕ, zero, ◌+◌, arith, refl, sym, ap, subst, true, ◌==◌, eq-eqb, eqb-true, List, Option, Some, None}
+use Rattle.std.proofs.Common.{◌≡◌, ◌∙◌, ℕ, zero, ◌+◌, arith, refl, sym, ap, subst, Bool, true, false, not, ◌&&◌, ◌==◌, eq-eqb, eqb-true, List, Option, Some, None}
 use Rattle.std.specs.List.{Contains}
 use Rattle.std.proofs.lemmas.Bool.{and_parts}
 use Rattle.topo_base.specs.Kinds.{kind_number}
@@ -9,7 +9,7 @@ use Rattle.topo_base.specs.declared.rows.RelationRow.{RelationRow}
 use Rattle.drawing.specs.Descent.{listed_by}
 use Rattle.drawing.specs.Drawing.{Drawing, feature_at, layer_at, layer_id_of}
 use Rattle.drawing.specs.Layers.{same_kind}
-use Rattle.drawing.specs.Relations.{is_among, lists_element}
+use Rattle.drawing.specs.Relations.{is_among, is_hierarchical, lists_element}
 use Rattle.drawing.specs.Subdivision.{is_above, is_layer_known, is_row_of}
 use Rattle.plane.proofs.ListTests.{some_same}
 use Rattle.drawing.proofs.Members.{contains-found}
@@ -73,3 +73,20 @@ rows_list S kind u knows h r i own =
     let layer : k.layer ≡ h.layer = some_same k.layer h.layer (sym k.there ∙ ap (layer_at S) same ∙ h.there) in
     let known = all_out (λ (l : LayerRow). is_layer_known S l l.child_id) S.layers h.layer knows.layers (contains-found (λ (l : LayerRow). layer_id_of l == h.row.layer_id) h.layer S.layers h.there).0 in
     ap (λ f. lists_element S (kind_number f) r.element_id r) (sym (ap (λ (l : LayerRow). l.feature_type) layer ∙ h.kind_is)) ∙ lists_of S r k (ap (λ (l : LayerRow). l.child_id) layer ∙ childless S h.layer known h.level)
+
+-- elements of another list that contains the same
+pub among_same : (f : ℕ) (xs ys : List ℕ) → ((w : ℕ) → Contains xs w → Contains ys w) → is_among f xs ≡ true → is_among f ys ≡ true
+among_same f xs ys h among = among_in f ys (h f (among_out f xs among))
+
+-- ---- rows that are not followed
+pub other_kind : (S : Drawing) (n type : ℕ) (r : RelationRow) (among : Bool) → (n == type) ≡ false → lists_element S n r.element_id r ≡ true → (lists_element S type r.element_id r && among) ≡ false
+other_kind S n type r among differ h =
+    let own : r.element_type ≡ n = eqb-true r.element_type n (and_parts (r.element_type == n) (r.element_id == r.element_id) (and_parts (r.element_type == n && r.element_id == r.element_id) (not (is_hierarchical S r.layer_id)) h).0).0 in
+    ap (λ b. b && r.element_id == r.element_id && not (is_hierarchical S r.layer_id) && among) (ap (λ m. m == type) own ∙ differ)
+
+pub above_kind : (S : Drawing) (type : ℕ) (r : RelationRow) (among : Bool) → is_hierarchical S r.layer_id ≡ true → (lists_element S type r.element_id r && among) ≡ false
+above_kind S type r among h = ap (λ b. (r.element_type == type && r.element_id == r.element_id && not b) && among) h ∙ none (r.element_type == type && r.element_id == r.element_id) among
+  where
+    none : (a b : Bool) → (a && false && b) ≡ false
+    none true b = refl
+    none false b = refl

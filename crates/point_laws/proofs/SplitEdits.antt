@@ -49,7 +49,7 @@ use Rattle.point_laws.proofs.OneMore.{same_in}
 use Rattle.point_laws.proofs.Follow.{behind, listed_anew, listed_same}
 use Rattle.point_laws.proofs.Levels.{HasLevel, above_rows, points_kept}
 use Rattle.point_laws.proofs.NodeEdits.{comes_at, in_front}
-use Rattle.point_laws.proofs.Primitive.{among_in, among_out, listing, rows_list}
+use Rattle.point_laws.proofs.Primitive.{above_kind, among_in, among_out, among_same, listing, other_kind, rows_list}
 
 -- ---- a point of a line is on one of its parts
 either_list : {X : Type 0} (x : X) (xs ys : List X) → Contains (xs ++ ys) x → Contains xs x ⊎ Contains ys x
@@ -176,10 +176,6 @@ split_lineal S e p id id' fs ids u q knows good split new k = (to, from)
             way
 
 -- ---- features of faces and of nodes
--- elements of another list that contains the same
-among_same : (f : ℕ) (xs ys : List ℕ) → ((w : ℕ) → Contains xs w → Contains ys w) → is_among f xs ≡ true → is_among f ys ≡ true
-among_same f xs ys h among = among_in f ys (h f (among_out f xs among))
-
 sides_same : (l r : ℕ) (xs ys : List ℕ) → ((w : ℕ) → Contains xs w → Contains ys w) → (is_among l xs || is_among r xs) ≡ true → (is_among l ys || is_among r ys) ≡ true
 sides_same l r xs ys h among =
     ⊎_elim (λ (k : is_among l xs ≡ true). or_left (is_among l ys) (is_among r ys) (among_same l xs ys h k)) (λ (k : is_among r xs ≡ true). or_right (is_among l ys) (is_among r ys) (among_same r xs ys h k)) (or_cases (is_among l xs) (is_among r xs) among)
@@ -240,19 +236,6 @@ from_split S T e p id id' fs xs ys q t h lists (inr (x, (cx, sides, on))) = by (
         inr (e, (h.split.there, sides_same e.left_face e.right_face ys xs lists (subst (λ (z : Edge). (is_among z.left_face ys || is_among z.right_face ys) ≡ true) (sym is) sides), up_to_on p e.geom (cut p e.geom h.split.on) q (subst (IsOnEdge q) (sym is) on)))
     by (inr (inr is)) =
         inr (e, (h.split.there, sides_same e.left_face e.right_face ys xs lists (subst (λ (z : Edge). (is_among z.left_face ys || is_among z.right_face ys) ≡ true) (sym is) sides), from_on p e.geom (cut p e.geom h.split.on) q (subst (IsOnEdge q) (sym is) on)))
-
--- ---- rows that are not followed
-other_kind : (S : Drawing) (n type : ℕ) (r : RelationRow) (among : Bool) → (n == type) ≡ false → lists_element S n r.element_id r ≡ true → (lists_element S type r.element_id r && among) ≡ false
-other_kind S n type r among differ h =
-    let own : r.element_type ≡ n = eqb-true r.element_type n (and_parts (r.element_type == n) (r.element_id == r.element_id) (and_parts (r.element_type == n && r.element_id == r.element_id) (not (is_hierarchical S r.layer_id)) h).0).0 in
-    ap (λ b. b && r.element_id == r.element_id && not (is_hierarchical S r.layer_id) && among) (ap (λ m. m == type) own ∙ differ)
-
-above_kind : (S : Drawing) (type : ℕ) (r : RelationRow) (among : Bool) → is_hierarchical S r.layer_id ≡ true → (lists_element S type r.element_id r && among) ≡ false
-above_kind S type r among h = ap (λ b. (r.element_type == type && r.element_id == r.element_id && not b) && among) h ∙ none (r.element_type == type && r.element_id == r.element_id) among
-  where
-    none : (a b : Bool) → (a && false && b) ≡ false
-    none true b = refl
-    none false b = refl
 
 -- ---- both kinds of split
 parts_keep : (S : Drawing) (e : Edge) (p : Point) (id id' : ℕ) (fs : List Edge) (next : Counters) → IsTold S → IsSplitInto S e p id id' fs → AreNewIds S e id id'
