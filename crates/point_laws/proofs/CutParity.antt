@@ -231,3 +231,11 @@ no_weight g q e same = ap (λ b. cond b (is_odd_over_at q (segments_of e.geom)) 
     none : (b : Bool) → xor b b ≡ false
     none true = refl
     none false = refl
+
+-- an edge with one face on both sides is on no border
+pub total_more : (g : ℕ) (q : RationalPoint) (es : List Edge) (e : Edge) → e.left_face ≡ e.right_face → total g q (es ++ e ∷ []) ≡ total g q es
+total_more g q es e same = total_append g q es (e ∷ []) ∙ ap (xor (total g q es)) (one_total g q e ∙ ap (λ t. xor t false) (no_weight g q e same)) ∙ nothing (total g q es)
+  where
+    nothing : (b : Bool) → xor b (xor false false) ≡ b
+    nothing true = refl
+    nothing false = refl

@@ -30,7 +30,7 @@ use Rattle.subdivision_laws.specs.Subdivided.{IsSubdivided}
 use Rattle.subdivision_laws.proofs.RingAdded.{FacesBelow}
 use Rattle.local_laws.specs.Local.{IsAllowed}
 use Rattle.point_laws.specs.PointsStay.{KeepsPoints}
-use Rattle.point_laws.proofs.CutParity.{border_total, no_weight, one_total, total, total_append}
+use Rattle.point_laws.proofs.CutParity.{border_total, total, total_more}
 use Rattle.point_laws.proofs.EdgeComes.{on_line_of}
 use Rattle.point_laws.proofs.EdgePoints.{ListsAlike, SameNodes, edge_more, map_same, new_unlisted, put_twice_same, same_then}
 use Rattle.point_laws.proofs.Follow.{above_same_rows, listed_anew, other_same_rows}
@@ -42,7 +42,7 @@ use Rattle.point_laws.proofs.Primitive.{among_in, among_out, listing, rows_list}
 use Rattle.point_laws.proofs.Told.{IsTold}
 
 -- ---- the faces before and after
-abbrev IsListed : List ℕ → ℕ → Type 0
+abbrev pub IsListed : List ℕ → ℕ → Type 0
 IsListed fs g = list_any (λ x. x == g) fs ≡ true
 
 -- fs are the faces of S with the parts l and r in the place of k, which may be one of them
@@ -123,10 +123,10 @@ side_number S fs d hs f h parts listed = by (f == d.face) refl
         }
 
 -- ---- the drawing with the edge, whose face is divided
-abbrev parted : Drawing → NodeRow → NodeRow → List Point → Division → List ℕ → ℕ → Drawing
+abbrev pub parted : Drawing → NodeRow → NodeRow → List Point → Division → List ℕ → ℕ → Drawing
 parted S a b line d fs count = divided (with_edge S a b line d.face) d fs count
 
-abbrev name_of : Division → ℕ → ℕ
+abbrev pub name_of : Division → ℕ → ℕ
 name_of d = renamed (d.left_part ∷ d.right_part ∷ []) d.face
 
 pub record Divides (S : Drawing) (a b : NodeRow) (line : List Point) (d : Division) (fs : List ℕ) : Type 0 where
@@ -198,15 +198,9 @@ halves S a b line d fs count h = record {
     pairs : Pairs (IsJoined d.left_part d.right_part d.face) xs ys
     pairs = pairs_to (IsJoined d.left_part d.right_part d.face) (parts_of_edge S a b line d) xs (edge_joined S a b line d fs h)
 
-    nothing : (b : Bool) → xor b (xor false false) ≡ b
-    nothing true = refl
-    nothing false = refl
-
     -- the new edge is on no border
     with_line : (g : ℕ) (q : RationalPoint) → total g q xs ≡ total g q S.edges
-    with_line g q =
-        let e = coming S a b line d.face in
-        total_append g q S.edges (e ∷ []) ∙ ap (xor (total g q S.edges)) (one_total g q e ∙ ap (λ t. xor t false) (no_weight g q e refl)) ∙ nothing (total g q S.edges)
+    with_line g q = total_more g q S.edges (coming S a b line d.face) refl
 
 -- ---- one edge more
 one_more : (S : Drawing) (a b : NodeRow) (line : List Point) (d : Division) (fs : List ℕ) (count : ℕ) → Divides S a b line d fs → IsSubdivided (parted S a b line d fs count)

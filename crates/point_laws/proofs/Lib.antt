@@ -11,4 +11,5 @@ pub mod JoinedParity
 pub mod EdgePoints
 pub mod EdgeComes
 pub mod FaceDivided
+pub mod EdgesCome
 pub mod SplitEdits
