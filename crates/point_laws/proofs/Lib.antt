@@ -12,4 +12,7 @@ pub mod EdgePoints
 pub mod EdgeComes
 pub mod FaceDivided
 pub mod EdgesCome
+pub mod EdgeGone
+pub mod EdgesGo
 pub mod SplitEdits
+pub mod PointsStaying

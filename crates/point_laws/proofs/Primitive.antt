@@ -1,7 +1,9 @@
 -- What a feature without children lists: elements of its kind that are there.
 use Rattle.std.proofs.Common.{◌≡◌, ◌∙◌, ℕ, zero, ◌+◌, arith, refl, sym, ap, subst, Bool, true, false, not, ◌&&◌, ◌==◌, eq-eqb, eqb-true, List, Option, Some, None}
 use Rattle.std.specs.List.{Contains}
+use Rattle.std.specs.Prelude.{filter}
 use Rattle.std.proofs.lemmas.Bool.{and_parts}
+use Rattle.std.proofs.lemmas.Slice.Eq.{bytes_eq-Decides}
 use Rattle.topo_base.specs.Kinds.{kind_number}
 use Rattle.topo_base.specs.declared.kind.Kind.{Kind}
 use Rattle.topo_base.specs.declared.rows.LayerRow.{LayerRow}
@@ -9,10 +11,11 @@ use Rattle.topo_base.specs.declared.rows.RelationRow.{RelationRow}
 use Rattle.drawing.specs.Descent.{listed_by}
 use Rattle.drawing.specs.Drawing.{Drawing, feature_at, layer_at, layer_id_of}
 use Rattle.drawing.specs.Layers.{same_kind}
-use Rattle.drawing.specs.Relations.{is_among, is_hierarchical, lists_element}
+use Rattle.drawing.specs.Relations.{features_of, is_among, is_hierarchical, lists_element}
+use Rattle.drawing.specs.RemoveEdge.{have_same_features}
 use Rattle.drawing.specs.Subdivision.{is_above, is_layer_known, is_row_of}
 use Rattle.plane.proofs.ListTests.{some_same}
-use Rattle.drawing.proofs.Members.{contains-found}
+use Rattle.drawing.proofs.Members.{contains-filter, contains-filtered, contains-found, contains-map, contains-mapped}
 use Rattle.reference_laws.proofs.Followed.{each_row}
 use Rattle.reference_laws.proofs.KnownRows.{KnowsRows, has_listed, has_of, lists_of}
 use Rattle.ring_laws.proofs.Known.{all_out, any_out, any_in}
@@ -90,3 +93,24 @@ above_kind S type r among h = ap (λ b. (r.element_type == type && r.element_id 
     none : (a b : Bool) → (a && false && b) ≡ false
     none true b = refl
     none false b = refl
+
+-- ---- elements that the same features list
+pub row_lists : (S : Drawing) (u w : ℕ) (r : RelationRow) → Contains S.relations r → r.topogeo_id ≡ u → r.element_id ≡ w → Contains (listed_by S u) w
+row_lists S u w r c own is =
+    subst (Contains (listed_by S u)) is
+    (contains-map (λ (row : RelationRow). row.element_id) r (filter (λ (row : RelationRow). row.topogeo_id == u) S.relations) (contains-filter (λ (row : RelationRow). row.topogeo_id == u) r S.relations c (eq-eqb r.topogeo_id u own)))
+
+pub listed_alike : (S : Drawing) (kind : Kind) (x y u : ℕ) → KnowsRows S → HasLevel S kind zero u → have_same_features S (kind_number kind) x y ≡ true → Contains (listed_by S u) x → Contains (listed_by S u) y
+listed_alike S kind x y u knows h alike c =
+    let l = listing S kind u x knows h c in
+    let lists : lists_element S (kind_number kind) x l.row ≡ true = ap (λ n. lists_element S (kind_number kind) n l.row) (sym l.element) ∙ l.lists in
+    let of_x : Contains (features_of S (kind_number kind) x) u =
+    subst (Contains (features_of S (kind_number kind) x)) l.of (contains-map (λ (row : RelationRow). row.topogeo_id) l.row (filter (lists_element S (kind_number kind) x) S.relations) (contains-filter (lists_element S (kind_number kind) x) l.row S.relations l.there lists)) in
+    let same = (bytes_eq-Decides (features_of S (kind_number kind) x) (features_of S (kind_number kind) y)).0 alike in
+    let (r, (i, own)) = contains-mapped (λ (row : RelationRow). row.topogeo_id) u (filter (lists_element S (kind_number kind) y) S.relations) (subst (λ ns. Contains ns u) same of_x) in
+    let f = contains-filtered (lists_element S (kind_number kind) y) r S.relations i in
+    row_lists S u y r f.0 own
+    (eqb-true r.element_id y (and_parts (r.element_type == kind_number kind) (r.element_id == y) (and_parts (r.element_type == kind_number kind && r.element_id == y) (not (is_hierarchical S r.layer_id)) f.1).0).1)
+
+pub turned_alike : (S : Drawing) (type x y : ℕ) → have_same_features S type x y ≡ true → have_same_features S type y x ≡ true
+turned_alike S type x y alike = (bytes_eq-Decides (features_of S type y) (features_of S type x)).1 (sym ((bytes_eq-Decides (features_of S type x) (features_of S type y)).0 alike))
