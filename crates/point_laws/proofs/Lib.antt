@@ -15,4 +15,5 @@ pub mod EdgesCome
 pub mod EdgeGone
 pub mod EdgesGo
 pub mod SplitEdits
+pub mod Heals
 pub mod PointsStaying

@@ -89,7 +89,7 @@ node_more S face p h later t before still =
     next = record (S.next_ids) { node = S.next_ids.node + 1 }
 
 -- ---- a node goes
-goes_at : (S : Drawing) (u gone : ℕ) (q : RationalPoint) → KnowsRows S → is_in_feature S node_type gone ≡ false → HasLevel S Puntal zero u
+pub goes_at : (S : Drawing) (u gone : ℕ) (q : RationalPoint) → KnowsRows S → is_in_feature S node_type gone ≡ false → HasLevel S Puntal zero u
     → AtNodes S (listed_by S u) q ↔ AtNodes (with_nodes S (without_row node_id_of S.nodes gone) S.next_ids) (listed_by S u) q
 goes_at S u gone q knows free k =
     (λ p. (p.0, (contains-filter (λ (row : NodeRow). not (node_id_of row == gone)) p.0 S.nodes p.1.0 (ap not (other p.0.node_id (among_out p.0.node_id (listed_by S u) p.1.1))), p.1.1, p.1.2)),

@@ -18,6 +18,7 @@ use Rattle.point_laws.specs.PointsStay.{KeepsPoints, PointsStay, keeps_points}
 use Rattle.point_laws.proofs.EdgesCome.{edge_comes, face_parted, face_parted_anew}
 use Rattle.point_laws.proofs.EdgesGo.{edge_goes, faces_join, faces_join_anew, lone_edge_goes}
 use Rattle.point_laws.proofs.FeatureEdits.{feature_comes, feature_goes, layer_comes, lists_less, lists_more}
+use Rattle.point_laws.proofs.Heals.{edges_joined, edges_joined_anew}
 use Rattle.point_laws.proofs.NodeEdits.{node_elsewhere, node_less, node_more}
 use Rattle.point_laws.proofs.SplitEdits.{edge_cut, edge_cut_anew}
 use Rattle.point_laws.proofs.Told.{IsTold, told}
@@ -36,8 +37,8 @@ keeps S (FacesJoin e kept goes) k w h later _ = faces_join S e kept goes k.0 k.1
 keeps S (FacesJoinAnew e) k w h later kept = faces_join_anew S e k.0 k.1 k.2 h later
 keeps S (EdgeIsCut e p) k w h later kept = edge_cut S e p k h later
 keeps S (EdgeIsCutAnew e p) k w h later kept = edge_cut_anew S e p k h later
-keeps S (EdgesAreJoined e f n) k w h later kept = absurd cc
-keeps S (EdgesAreJoinedAnew e f n) k w h later kept = absurd cc
+keeps S (EdgesAreJoined e f n) k w h later kept = edges_joined S e f n k h later
+keeps S (EdgesAreJoinedAnew e f n) k w h later kept = edges_joined_anew S e f n k h later
 keeps S (LayerComes name kind child level) k w h later kept = layer_comes S name kind child level h
 keeps S (FeatureComes layer xs) k w h later kept = feature_comes S layer xs h
 keeps S (FeatureLists row) k w h later kept = absurd cc

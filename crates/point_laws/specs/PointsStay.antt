@@ -8,7 +8,7 @@ use Rattle.topo_base.specs.declared.rows.NodeRow.{NodeRow}
 use Rattle.topo_base.specs.declared.rows.RelationRow.{RelationRow}
 use Rattle.drawing.specs.Accepted.{is_accepted}
 use Rattle.drawing.specs.Apply.{apply}
-use Rattle.drawing.specs.Change.{Change, NodeMoves, FeatureLists, FeatureUnlists, EdgesAreJoined, EdgesAreJoinedAnew}
+use Rattle.drawing.specs.Change.{Change, NodeMoves, FeatureLists, FeatureUnlists}
 use Rattle.drawing.specs.Decide.{decide}
 use Rattle.drawing.specs.Descent.{listed_by}
 use Rattle.drawing.specs.Drawing.{Drawing, feature_at}
@@ -49,8 +49,6 @@ abbrev pub keeps_points : Change → Bool
 keeps_points (NodeMoves n p) = false
 keeps_points (FeatureLists row) = false
 keeps_points (FeatureUnlists row) = false
-keeps_points (EdgesAreJoined e f n) = false
-keeps_points (EdgesAreJoinedAnew e f n) = false
 keeps_points c = true
 
 pub record PointsStay : Type 0 where
