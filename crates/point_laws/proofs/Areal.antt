@@ -4,7 +4,7 @@ use Rattle.std.specs.Prelude.{IsTrue}
 use Rattle.std.specs.Ordering.{int_eq}
 use Rattle.std.specs.Bool.{Decides}
 use Rattle.std.specs.List.{Contains, list_any}
-use Rattle.std.proofs.lemmas.Bool.{and_parts}
+use Rattle.std.proofs.lemmas.Bool.{and_parts, false≢true}
 use Rattle.std.proofs.lemmas.Bool.Decides.{Decides-and, Decides-int_eq}
 use Rattle.topo_base.specs.Point.{Point}
 use Rattle.topo_base.specs.RationalPoint.{RationalPoint, rational, IsAt, SamePoint}
@@ -15,7 +15,7 @@ use Rattle.drawing.specs.Faced.{is_in}
 use Rattle.drawing.specs.FeaturePoints.{IsPointOfElements, OnSides}
 use Rattle.plane.specs.Line.{segments_of, first_vertex, last_vertex}
 use Rattle.plane.specs.RationalTests.{area_at, IsOn, IsOnLine}
-use Rattle.drawing.specs.DrawnPoints.{IsOnEdge, IsOffEdges}
+use Rattle.drawing.specs.DrawnPoints.{IsOnEdge, IsOffEdges, IsOffNodes}
 use Rattle.drawing.specs.Relations.{is_among}
 use Rattle.drawing.specs.Subdivision.{is_face_known}
 use Rattle.plane.proofs.ListTests.{Decides-any, Some_of, contains_here, contains_there}
@@ -58,7 +58,7 @@ decided : (b : Bool) (P : Type 0) → Decides b P → P ⊎ (P → ⊥)
 decided true P d = inl (d.0 refl)
 decided false P d = inr (λ p. let e : false ≡ true = d.1 p in absurd cc)
 
-is_at : Point → RationalPoint → Bool
+unfoldable pub is_at : Point → RationalPoint → Bool
 is_at p q = int_eq q.x (p.x *ℤ q.d) && int_eq q.y (p.y *ℤ q.d)
 
 Decides-is_at : (p : Point) (q : RationalPoint) → Decides (is_at p q) (IsAt p q)
@@ -71,7 +71,7 @@ at_or_not p q = decided (is_at p q) (IsAt p q) (Decides-is_at p q)
 pub at_some_node : (S : Drawing) (q : RationalPoint) → Some_of (λ (n : NodeRow). IsAt n.geom q) S.nodes ⊎ (Some_of (λ (n : NodeRow). IsAt n.geom q) S.nodes → ⊥)
 at_some_node S q = decided _ _ (Decides-any (λ (n : NodeRow). is_at n.geom q) (λ (n : NodeRow). IsAt n.geom q) (λ n. Decides-is_at n.geom q) S.nodes)
 
-is_on : RationalPoint → Segment → Bool
+unfoldable pub is_on : RationalPoint → Segment → Bool
 is_on q s = int_eq (area_at s.a s.b q) (pos 0) && is_between (s.a.x *ℤ q.d) q.x (s.b.x *ℤ q.d) && is_between (s.a.y *ℤ q.d) q.y (s.b.y *ℤ q.d)
 
 Decides-is_on : (q : RationalPoint) (s : Segment) → Decides (is_on q s) (IsOn q s)
@@ -90,6 +90,17 @@ pub on_some_edge : (S : Drawing) (q : RationalPoint) → Some_of (λ (e : Edge).
 on_some_edge S q =
     ⊎_elim (λ (s : Some_of (λ (e : Edge). IsOnEdge q e) S.edges). inl s) (λ (n : Some_of (λ (e : Edge). IsOnEdge q e) S.edges → ⊥). inr (λ e c on. n (e, (c, on))))
     (decided _ _ (Decides-any (λ (e : Edge). list_any (is_on q) (segments_of e.geom)) (λ (e : Edge). IsOnEdge q e) (λ e. Decides-any (is_on q) (IsOn q) (Decides-is_on q) (segments_of e.geom)) S.edges))
+
+-- where the tests say so
+pub off_edges : (S : Drawing) (q : RationalPoint) → list_any (λ (e : Edge). list_any (is_on q) (segments_of e.geom)) S.edges ≡ false → IsOffEdges S q
+off_edges S q none e c on =
+    let on_some : list_any (λ (e : Edge). list_any (is_on q) (segments_of e.geom)) S.edges ≡ true =
+    (Decides-any (λ (e : Edge). list_any (is_on q) (segments_of e.geom)) (λ (e : Edge). IsOnEdge q e) (λ e. Decides-any (is_on q) (IsOn q) (Decides-is_on q) (segments_of e.geom)) S.edges).1 (e, (c, on)) in
+    false≢true (sym none ∙ on_some)
+
+pub off_nodes : (S : Drawing) (q : RationalPoint) → list_any (λ (n : NodeRow). is_at n.geom q) S.nodes ≡ false → IsOffNodes S q
+off_nodes S q none n c at =
+    false≢true (sym none ∙ (Decides-any (λ (n : NodeRow). is_at n.geom q) (λ (n : NodeRow). IsAt n.geom q) (λ n. Decides-is_at n.geom q) S.nodes).1 (n, (c, at)))
 
 -- ---- isolated nodes
 pub node_is_known : (S : Drawing) (n : NodeRow) → IsSubdivided S → Contains S.nodes n → is_face_known S n.containing_face (is_isolated S n.node_id) ≡ true

@@ -17,3 +17,4 @@ pub mod EdgesGo
 pub mod SplitEdits
 pub mod Heals
 pub mod PointsStaying
+pub mod FirstAloneLoses

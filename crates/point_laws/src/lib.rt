@@ -7,4 +7,4 @@
 
 mod laws;
 
-pub use laws::points_law;
+pub use laws::{first_alone_law, points_law};
