@@ -16,5 +16,6 @@ pub mod EdgeGone
 pub mod EdgesGo
 pub mod SplitEdits
 pub mod Heals
+pub mod Decisions
 pub mod PointsStaying
 pub mod FirstAloneLoses

@@ -1,10 +1,11 @@
 -- Each change leaves the points of features, by changes.
-use Rattle.std.proofs.Common.{◌≡◌, ℕ, refl, sym, ap, subst, true, false, ◌&&◌, List, [], ◌∷◌, ◌++◌, Ok}
+use Rattle.std.proofs.Common.{◌≡◌, ℕ, refl, true, ◌&&◌, List, [], ◌∷◌, ◌++◌, Ok, Err}
 use Rattle.std.specs.Prelude.{is_ok}
 use Rattle.std.proofs.lemmas.Bool.{and_parts}
+use Rattle.topo_base.specs.declared.edit.Edit.{Edit}
 use Rattle.topo_base.specs.declared.edit.Entry.{Entry}
 use Rattle.drawing.specs.Accepted.{are_accepted, ids_within, is_accepted, is_editor, is_entry, keeps_limits}
-use Rattle.drawing.specs.Apply.{apply, carried_out}
+use Rattle.drawing.specs.Apply.{Decision, apply, carried_out}
 use Rattle.drawing.specs.Change.{Change, NodeComes, NodeMoves, NodeGoes, EdgeComes, FaceIsDivided, FaceIsDividedAnew, LoneEdgeGoes, EdgeGoes, FacesJoin, FacesJoinAnew, EdgeIsCut, EdgeIsCutAnew, EdgesAreJoined, EdgesAreJoinedAnew, LayerComes, FeatureComes, FeatureLists, FeatureUnlists, FeatureGoes}
 use Rattle.drawing.specs.Decide.{decide}
 use Rattle.drawing.specs.Drawing.{Drawing, nothing_drawn}
@@ -14,7 +15,8 @@ use Rattle.edit_changes.specs.Evidence.{IsDecided, is_within}
 use Rattle.edit_changes.proofs.Evidence.{decided, within}
 use Rattle.subdivision_laws.specs.Subdivided.{IsSubdivided}
 use Rattle.subdivision_laws.proofs.SubdivisionsStaying.{change_subdivided, subdivisions_stay}
-use Rattle.point_laws.specs.PointsStay.{KeepsPoints, PointsStay, keeps_points}
+use Rattle.point_laws.specs.PointsStay.{KeepsPoints, PointsStay, keeps_points, leaves_points}
+use Rattle.point_laws.proofs.Decisions.{decisions_keep, keeps_what}
 use Rattle.point_laws.proofs.EdgesCome.{edge_comes, face_parted, face_parted_anew}
 use Rattle.point_laws.proofs.EdgesGo.{edge_goes, faces_join, faces_join_anew, lone_edge_goes}
 use Rattle.point_laws.proofs.FeatureEdits.{feature_comes, feature_goes, layer_comes, lists_less, lists_more}
@@ -48,6 +50,14 @@ keeps S (FeatureGoes t) k w h later kept = feature_goes S t k h
 change_keeps_points : (S : Drawing) (c : Change) → IsDecided S c → is_within c ≡ true → IsSubdivided S → keeps_points c ≡ true → KeepsPoints S ((apply S c).drawing)
 change_keeps_points S c k w s kept = keeps S c k w (told S s) (change_subdivided S c k w s) kept
 
+-- ---- each edit
+edit_keeps : (S : Drawing) (e : Edit) → keeps_limits e ≡ true → IsSubdivided S → leaves_points e ≡ true → KeepsPoints S (after S e)
+edit_keeps S e limits s leaves = by (decide S e) refl (decisions_keep S e leaves)
+  where
+    by : (d : Decision) → decide S e ≡ d → keeps_what d ≡ true → KeepsPoints S (drawing_of S (carried_out S d))
+    by (Ok c) is kept = change_keeps_points S c (decided S e c is) (within S e c limits is) s kept
+    by (Err rule) is kept = λ t before later q. (λ p. p, λ p. p)
+
 -- ---- each entry of an accepted history
 record IsReached (S : Drawing) (front : List Entry) (x : Entry) : Type 0 where
   before : IsSubdivided (after_all S (edits_of front))
@@ -67,12 +77,10 @@ reached max_id S (y ∷ front) rest x s k =
     let r = reached max_id (after S y.edit) front rest x (subdivisions_stay.each_edit S y.edit (entry_limits max_id S y (front ++ x ∷ rest) k) s) more in
     record { before = r.before; limits = r.limits }
 
-entry_keeps : (max_id : ℕ) (front rest : List Entry) (x : Entry) (c : Change) → is_accepted max_id (front ++ x ∷ rest) ≡ true → decide (replay front) x.edit ≡ Ok c → keeps_points c ≡ true → KeepsPoints (replay front) (after (replay front) x.edit)
-entry_keeps max_id front rest x c accepted is kept =
-    let S = replay front in
+entry_keeps : (max_id : ℕ) (front rest : List Entry) (x : Entry) → is_accepted max_id (front ++ x ∷ rest) ≡ true → leaves_points x.edit ≡ true → KeepsPoints (replay front) (after (replay front) x.edit)
+entry_keeps max_id front rest x accepted kept =
     let r = reached max_id nothing_drawn front rest x subdivisions_stay.begins accepted in
-    subst (KeepsPoints S) (sym (ap (λ d. drawing_of S (carried_out S d)) is))
-    (change_keeps_points S c (decided S x.edit c is) (within S x.edit c r.limits is) r.before kept)
+    edit_keeps (replay front) x.edit r.limits r.before kept
 
 pub points_stay : PointsStay
 points_stay = record {
@@ -80,5 +88,6 @@ points_stay = record {
   node_moves = λ S n p k s. node_elsewhere S n.node_id p (told S s) (change_subdivided S (NodeMoves n p) k refl s);
   feature_lists = λ S row k s. lists_more S row (told S s);
   feature_unlists = λ S row k s. lists_less S row (told S s);
+  each_edit = edit_keeps;
   each_entry = entry_keeps;
 }

@@ -1,15 +1,16 @@
 -- The points of a feature that a change leaves as they are.
-use Rattle.std.specs.Prelude.{◌≡◌, ℕ, zero, suc, ◌⊎◌, ◌↔◌, Bool, true, false, IsTrue, IsSome, List, ◌∷◌, ◌++◌, Ok}
+use Rattle.std.specs.Prelude.{◌≡◌, ℕ, zero, suc, ◌⊎◌, ◌↔◌, Bool, true, false, IsTrue, IsSome, List, ◌∷◌, ◌++◌}
 use Rattle.std.specs.List.{Contains}
 use Rattle.topo_base.specs.Point.{Point}
 use Rattle.topo_base.specs.RationalPoint.{RationalPoint}
+use Rattle.topo_base.specs.declared.edit.Edit.{Edit}
+use Rattle.topo_base.specs.declared.edit.Edit.TheVariants.{MoveIsoNode, AddElement, RemElement}
 use Rattle.topo_base.specs.declared.edit.Entry.{Entry}
 use Rattle.topo_base.specs.declared.rows.NodeRow.{NodeRow}
 use Rattle.topo_base.specs.declared.rows.RelationRow.{RelationRow}
-use Rattle.drawing.specs.Accepted.{is_accepted}
+use Rattle.drawing.specs.Accepted.{is_accepted, keeps_limits}
 use Rattle.drawing.specs.Apply.{apply}
 use Rattle.drawing.specs.Change.{Change, NodeMoves, FeatureLists, FeatureUnlists}
-use Rattle.drawing.specs.Decide.{decide}
 use Rattle.drawing.specs.Descent.{listed_by}
 use Rattle.drawing.specs.Drawing.{Drawing, feature_at}
 use Rattle.drawing.specs.FeaturePoints.{IsPointOf}
@@ -51,12 +52,20 @@ keeps_points (FeatureLists row) = false
 keeps_points (FeatureUnlists row) = false
 keeps_points c = true
 
+-- the edits of which no other change comes
+abbrev pub leaves_points : Edit → Bool
+leaves_points (MoveIsoNode n p) = false
+leaves_points (AddElement t id type) = false
+leaves_points (RemElement t id type) = false
+leaves_points e = true
+
 pub record PointsStay : Type 0 where
   pub each_change : (S : Drawing) (c : Change) → IsDecided S c → IsTrue (is_within c) → IsSubdivided S → IsTrue (keeps_points c) → KeepsPoints S ((apply S c).drawing)
   -- the others leave those of each feature that does not descend to what they change
   pub node_moves : (S : Drawing) (n : NodeRow) (p : Point) → IsDecided S (NodeMoves n p) → IsSubdivided S → KeepsPointsOf (IsApartFromNode S n.node_id) S ((apply S (NodeMoves n p)).drawing)
   pub feature_lists : (S : Drawing) (row : RelationRow) → IsDecided S (FeatureLists row) → IsSubdivided S → KeepsPointsOf (IsApartFrom S row.topogeo_id) S ((apply S (FeatureLists row)).drawing)
   pub feature_unlists : (S : Drawing) (row : RelationRow) → IsDecided S (FeatureUnlists row) → IsSubdivided S → KeepsPointsOf (IsApartFrom S row.topogeo_id) S ((apply S (FeatureUnlists row)).drawing)
-  -- each entry of an accepted history whose change is one of these
-  pub each_entry : (max_id : ℕ) (front rest : List Entry) (x : Entry) (c : Change) → IsTrue (is_accepted max_id (front ++ x ∷ rest)) → decide (replay front) x.edit ≡ Ok c → IsTrue (keeps_points c)
-      → KeepsPoints (replay front) (after (replay front) x.edit)
+  -- so each edit that doesn't move a node and doesn't change what a feature lists leaves the points of every feature
+  pub each_edit : (S : Drawing) (e : Edit) → IsTrue (keeps_limits e) → IsSubdivided S → IsTrue (leaves_points e) → KeepsPoints S (after S e)
+  -- and so does each such entry of an accepted history
+  pub each_entry : (max_id : ℕ) (front rest : List Entry) (x : Entry) → IsTrue (is_accepted max_id (front ++ x ∷ rest)) → IsTrue (leaves_points x.edit) → KeepsPoints (replay front) (after (replay front) x.edit)
