@@ -1,5 +1,5 @@
 -- The face in which an added line lies: it is one at both ends, and each point between them is in it.
-use Rattle.std.proofs.Common.{◌≡◌, ◌≢◌, ℕ, zero, suc, ◌≤◌, refl, sym, ◌∙◌, ap, subst, arith, ◌⊎◌, ⊎_elim, Bool, true, false, List, [], ◌∷◌, length, eqb}
+use Rattle.std.proofs.Common.{◌≡◌, ◌≢◌, ℕ, zero, suc, ◌≤◌, refl, sym, ◌∙◌, ap, subst, arith, ⊎_elim, Bool, true, false, List, [], ◌∷◌, length, eqb}
 use Rattle.std.specs.Prelude.{reverse, IsTrue}
 use Rattle.std.specs.List.{Contains}
 use Rattle.std.proofs.lemmas.Bool.{and_parts, both_ways, eqb-true, eq-eqb, ne_eqb}

@@ -194,7 +194,7 @@ one_total g q b = refl
 
 pub both_same : (g : ℕ) (q : RationalPoint) (es : List Edge) (e : Edge) (p : Point) (n id id' : ℕ) → Pairwise EdgeIdsDiffer es → Contains es e → Cut p e.geom
     → is_odd_over_at q (flat_map (λ (e : Edge). segments_of e.geom) (filter (is_border g) (without_row edge_id_of es e.edge_id ++ first_part e n p id ∷ second_part e n p id' ∷ [])))
-        ≡ is_odd_over_at q (flat_map (λ (e : Edge). segments_of e.geom) (filter (is_border g) es))
+    ≡ is_odd_over_at q (flat_map (λ (e : Edge). segments_of e.geom) (filter (is_border g) es))
 both_same g q es e p n id id' h i c =
     let one = first_part e n p id in
     let two = second_part e n p id' in
@@ -210,7 +210,7 @@ both_same g q es e p n id id' h i c =
 
 pub changed_same : (g : ℕ) (q : RationalPoint) (es : List Edge) (e : Edge) (p : Point) (n id' : ℕ) → Pairwise EdgeIdsDiffer es → Contains es e → Cut p e.geom
     → is_odd_over_at q (flat_map (λ (e : Edge). segments_of e.geom) (filter (is_border g) (with_change edge_id_of es e.edge_id (λ x. first_part x n p x.edge_id) ++ second_part e n p id' ∷ [])))
-        ≡ is_odd_over_at q (flat_map (λ (e : Edge). segments_of e.geom) (filter (is_border g) es))
+    ≡ is_odd_over_at q (flat_map (λ (e : Edge). segments_of e.geom) (filter (is_border g) es))
 changed_same g q es e p n id' h i c =
     let change = λ (x : Edge). first_part x n p x.edge_id in
     let two = second_part e n p id' in

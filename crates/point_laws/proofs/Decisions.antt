@@ -10,7 +10,7 @@ use Rattle.topo_base.specs.declared.rows.NodeRow.{NodeRow}
 use Rattle.topo_base.specs.declared.rows.FeatureRow.{FeatureRow}
 use Rattle.topo_base.specs.declared.rule.Rule.{Rule}
 use Rattle.drawing.specs.Apply.{Decision}
-use Rattle.drawing.specs.Decide.{decide, edge_comes, edge_goes, edge_in_face, edge_is_cut, edges_are_joined, edges_joined_at, faces_join, feature_comes, feature_goes, layer_comes_on, layer_comes_over, lone_edge_comes, lone_edge_goes, node_comes, node_goes, unless}
+use Rattle.drawing.specs.Decide.{decide, edge_comes, edge_goes, edge_in_face, edge_is_cut, edges_are_joined, edges_joined_at, feature_comes, feature_goes, layer_comes_on, layer_comes_over, lone_edge_comes, lone_edge_goes, node_goes, unless}
 use Rattle.drawing.specs.Drawing.{Drawing, Edge, edge_at, feature_at, is_isolated, layer_at, node_at}
 use Rattle.drawing.specs.AddEdge.{coming, face_at_end, face_at_start}
 use Rattle.drawing.specs.Blocked.{goes_between, is_blocked, is_line_blocked}

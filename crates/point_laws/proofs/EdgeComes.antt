@@ -1,9 +1,8 @@
 -- An edge that comes within a face: each point of its line is in that face or on its border.
-use Rattle.std.proofs.Common.{◌≡◌, ◌≤◌, arith, ℕ, refl, sym, ◌∙◌, ap, subst, ◌⊎◌, inl, inr, ⊎_elim, Bool, true, false, cond, ◌==◌, List, [], ◌∷◌, ◌++◌, filter, eq-eqb, eqb-true, Option, Some, None, unwrap_or}
-use Rattle.std.specs.Prelude.{IsTrue, reverse, fold, flat_map}
+use Rattle.std.proofs.Common.{◌≡◌, arith, ℕ, refl, sym, ◌∙◌, ap, subst, ◌⊎◌, inl, inr, ⊎_elim, true, false, ◌==◌, List, [], ◌∷◌, filter, eq-eqb, eqb-true, Option, Some, None, unwrap_or}
+use Rattle.std.specs.Prelude.{IsTrue, reverse, fold}
 use Rattle.std.specs.List.{Contains}
 use Rattle.std.proofs.lemmas.Bool.{and_parts, false≢true, or_cases, or_left, or_right}
-use Rattle.std.proofs.lemmas.List.Elements.{Contains-push, Contains-push_cases}
 use Rattle.topo_base.specs.Point.{Point, same_point}
 use Rattle.topo_base.specs.RationalPoint.{RationalPoint, IsAt}
 use Rattle.topo_base.specs.declared.rows.NodeRow.{NodeRow}
@@ -11,13 +10,11 @@ use Rattle.drawing.specs.AddEdge.{face_at_start, face_at_end}
 use Rattle.plane.specs.Direction.{Direction, first_direction}
 use Rattle.drawing.specs.Drawing.{Drawing, Edge, is_end_of}
 use Rattle.drawing.specs.Faced.{is_in}
-use Rattle.drawing.specs.Faces.{face_after, wedge_face, is_border}
-use Rattle.plane.specs.Parity.{xor}
+use Rattle.drawing.specs.Faces.{face_after, wedge_face}
 use Rattle.drawing.specs.FeaturePoints.{OnSides}
 use Rattle.drawing.specs.HalfEdge.{HalfEdge, forward_of, backward_of, half_edges, leaves}
-use Rattle.drawing.specs.IsoEdits.{with_edge}
-use Rattle.plane.specs.Line.{segments_of, first_vertex, last_vertex}
-use Rattle.plane.specs.RationalTests.{IsOnLine, is_odd_over_at}
+use Rattle.plane.specs.Line.{first_vertex, last_vertex}
+use Rattle.plane.specs.RationalTests.{IsOnLine}
 use Rattle.drawing.specs.DrawnPoints.{IsOnEdge, IsOffEdges}
 use Rattle.drawing.specs.Relations.{is_among}
 use Rattle.drawing.specs.Star.{last_clockwise, farther_of}
@@ -34,7 +31,6 @@ use Rattle.local_laws.specs.Local.{IsAllowed}
 use Rattle.local_laws.proofs.LineFaces.{one_face_by, in_face_by}
 use Rattle.subdivision_laws.specs.Subdivided.{IsSubdivided}
 use Rattle.point_laws.proofs.Areal.{contained_in, contained_off, end_on_edge, has_containing, on_some_edge, at_or_not}
-use Rattle.point_laws.proofs.NodeEdits.{in_front}
 
 -- ---- the face of a line at a node
 -- a half-edge that leaves the node on whose right the face is
@@ -46,13 +42,17 @@ after_some way (h ∷ ks) k i = (fold (farther_of way) h ks, ((farthest_is way h
 beside_half : (S : Drawing) (n : NodeRow) (f : ℕ) (q : RationalPoint) (c : HalfEdge) → IsSubdivided S → Contains S.nodes n → IsAt n.geom q → Contains (half_edges S) c → c.from_node ≡ n.node_id → c.on_right ≡ f → OnSides S (f ∷ []) q
 beside_half S n f q c s cn at i from right =
     let r = half_of S.edges c i in
-    let is = subst (λ m. is_end_of m r.edge ≡ true) from (leaves_end S.edges c r) in
-    (r.edge, (r.there,
-    ⊎_elim
-    (λ (p : forward_of r.edge ≡ c). or_right (is_among r.edge.left_face (f ∷ [])) (is_among r.edge.right_face (f ∷ [])) (one (r.edge.right_face) (sym right ∙ sym (ap (λ (h : HalfEdge). h.on_right) p))))
-    (λ (p : backward_of r.edge ≡ c). or_left (is_among r.edge.left_face (f ∷ [])) (is_among r.edge.right_face (f ∷ [])) (one (r.edge.left_face) (sym right ∙ sym (ap (λ (h : HalfEdge). h.on_right) p))))
-    r.way,
-    end_on_edge S n r.edge q (has_plain_lines S s.covered.ringed.rings) cn r.there is at))
+    let is = subst (λ m. is_end_of m r.edge ≡ true) from (leaves_end S.edges c r) in (
+      r.edge,
+      (
+        r.there,
+        ⊎_elim
+            (λ (p : forward_of r.edge ≡ c). or_right (is_among r.edge.left_face (f ∷ [])) (is_among r.edge.right_face (f ∷ [])) (one (r.edge.right_face) (sym right ∙ sym (ap (λ (h : HalfEdge). h.on_right) p))))
+            (λ (p : backward_of r.edge ≡ c). or_left (is_among r.edge.left_face (f ∷ [])) (is_among r.edge.right_face (f ∷ [])) (one (r.edge.left_face) (sym right ∙ sym (ap (λ (h : HalfEdge). h.on_right) p))))
+            r.way,
+        end_on_edge S n r.edge q (has_plain_lines S s.covered.ringed.rings) cn r.there is at,
+      ),
+    )
   where
     one : (g : ℕ) → f ≡ g → is_among g (f ∷ []) ≡ true
     one g e = or_left (f == g) false (eq-eqb f g e)

@@ -1,5 +1,5 @@
 -- A drawing with one edge more, or one less: features have the same points.
-use Rattle.std.proofs.Common.{◌≡◌, ◌∙◌, ℕ, zero, suc, refl, sym, ap, subst, arith, eqb-true, ⊎_elim, Bool, true, false, cond, ◌==◌, List, [], map, Option}
+use Rattle.std.proofs.Common.{◌≡◌, ◌∙◌, ℕ, zero, suc, refl, sym, ap, subst, arith, eqb-true, ⊎_elim, Bool, true, false, cond, ◌==◌, List, map, Option}
 use Rattle.std.specs.Prelude.{◌↔◌, IsTrue}
 use Rattle.std.specs.List.{Contains}
 use Rattle.topo_base.specs.RationalPoint.{RationalPoint, IsAt}
@@ -33,11 +33,12 @@ abbrev pub SameNodes : List NodeRow → List NodeRow → Type 0
 SameNodes ns ms = (ids : List ℕ) (q : RationalPoint) → AtListed ns ids q ↔ AtListed ms ids q
 
 pub map_same : (change : NodeRow → NodeRow) (nodes : List NodeRow) → ((n : NodeRow) → (node_id_of (change n) ≡ n.node_id) × ((change n).geom ≡ n.geom)) → SameNodes nodes (map change nodes)
-map_same change nodes keeps ids q =
-    (λ p. (change p.0, (contains-map change p.0 nodes p.1.0, subst (λ m. is_among m ids ≡ true) (sym (keeps p.0).0) p.1.1, subst (λ v. IsAt v q) (sym (keeps p.0).1) p.1.2)),
-    λ p.
-    let (row, (i, is)) = contains-mapped change p.0 nodes p.1.0 in
-    (row, (i, subst (λ m. is_among m ids ≡ true) (sym (ap node_id_of is) ∙ (keeps row).0) p.1.1, subst (λ v. IsAt v q) (sym (ap (λ (n : NodeRow). n.geom) is) ∙ (keeps row).1) p.1.2)))
+map_same change nodes keeps ids q = (
+  λ p. (change p.0, (contains-map change p.0 nodes p.1.0, subst (λ m. is_among m ids ≡ true) (sym (keeps p.0).0) p.1.1, subst (λ v. IsAt v q) (sym (keeps p.0).1) p.1.2)),
+  λ p.
+      let (row, (i, is)) = contains-mapped change p.0 nodes p.1.0 in
+      (row, (i, subst (λ m. is_among m ids ≡ true) (sym (ap node_id_of is) ∙ (keeps row).0) p.1.1, subst (λ v. IsAt v q) (sym (ap (λ (n : NodeRow). n.geom) is) ∙ (keeps row).1) p.1.2)),
+)
 
 put_same : (c : Option ℕ) (m : ℕ) (nodes : List NodeRow) → SameNodes nodes (put_in_face c m nodes)
 put_same c m nodes = map_same (λ (row : NodeRow). cond (node_id_of row == m) (record row { containing_face = c }) row) nodes (λ row. by row (node_id_of row == m))
@@ -82,9 +83,10 @@ pub record ListsAlike (B A S T : Drawing) (name : ℕ → ℕ) : Type 0 where
   pub areal : (u : ℕ) → HasLevel B Areal zero u → AreNamed T name (listed_by S u) (listed_by T u)
 
 at_listed : (B A : Drawing) (u : ℕ) (q : RationalPoint) → SameNodes B.nodes A.nodes → SameListed B A u → AtNodes B (listed_by B u) q ↔ AtNodes A (listed_by A u) q
-at_listed B A u q nodes lists =
-    (λ p. let r = (nodes (listed_by B u) q).0 p in (r.0, (r.1.0, among_same r.0.node_id (listed_by B u) (listed_by A u) (λ w. (lists w).0) r.1.1, r.1.2)),
-    λ p. (nodes (listed_by B u) q).1 (p.0, (p.1.0, among_same p.0.node_id (listed_by A u) (listed_by B u) (λ w. (lists w).1) p.1.1, p.1.2)))
+at_listed B A u q nodes lists = (
+  λ p. let r = (nodes (listed_by B u) q).0 p in (r.0, (r.1.0, among_same r.0.node_id (listed_by B u) (listed_by A u) (λ w. (lists w).0) r.1.1, r.1.2)),
+  λ p. (nodes (listed_by B u) q).1 (p.0, (p.1.0, among_same p.0.node_id (listed_by A u) (listed_by B u) (λ w. (lists w).1) p.1.1, p.1.2)),
+)
 
 on_listed : (A : Drawing) (xs ys : List ℕ) (q : RationalPoint) → ((w : ℕ) → Contains xs w ↔ Contains ys w) → OnEdges A xs q ↔ OnEdges A ys q
 on_listed A xs ys q lists =

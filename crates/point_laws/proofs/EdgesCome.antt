@@ -1,11 +1,10 @@
 -- Edges that come leave the points of features.
-use Rattle.std.proofs.Common.{◌≡◌, ◌≢◌, ◌∙◌, ℕ, ◌+◌, ◌≤◌, ◌<◌, arith, refl, sym, ap, subst, ◌⊎◌, inl, inr, ⊎_elim, Bool, true, false, cond, not, ◌==◌, List, [], ◌∷◌, ◌++◌, filter, length, eqb-true, None}
+use Rattle.std.proofs.Common.{◌≡◌, ◌≢◌, ◌∙◌, ℕ, ◌+◌, arith, refl, sym, subst, ◌⊎◌, inl, inr, ⊎_elim, Bool, true, false, cond, not, ◌==◌, List, [], ◌∷◌, ◌++◌, filter, length, eqb-true, None}
 use Rattle.std.specs.Prelude.{IsTrue, nat_le, ◌↔◌}
 use Rattle.std.specs.List.{Contains}
-use Rattle.std.proofs.lemmas.Bool.{and_parts, both_ways, eq-eqb, leb-true, ne_eqb, not-true}
-use Rattle.std.proofs.lemmas.List.Elements.{Contains-append_cases, Contains-append_left, Contains-append_right, Contains-push, Contains-push_cases}
+use Rattle.std.proofs.lemmas.Bool.{and_parts, both_ways, eq-eqb, leb-true, not-true}
+use Rattle.std.proofs.lemmas.List.Elements.{Contains-append_cases, Contains-append_right, Contains-push, Contains-push_cases}
 use Rattle.topo_base.specs.Point.{Point}
-use Rattle.topo_base.specs.RationalPoint.{RationalPoint}
 use Rattle.topo_base.specs.declared.rows.NodeRow.{NodeRow}
 use Rattle.plane.proofs.ListTests.{contains_cases, contains_here, contains_none, contains_there}
 use Rattle.drawing.specs.Accepted.{is_line_short}
@@ -15,7 +14,7 @@ use Rattle.drawing.specs.Drawing.{Drawing, Edge, has_face}
 use Rattle.drawing.specs.Faced.{is_in}
 use Rattle.drawing.specs.FeaturePoints.{OnSides}
 use Rattle.drawing.specs.IsoEdits.{with_edge}
-use Rattle.drawing.proofs.Members.{contains-filter, contains-filtered}
+use Rattle.drawing.proofs.Members.{contains-filtered}
 use Rattle.edit_changes.specs.Evidence.{EdgeMayCome, FaceMayBeDivided, left_ring, right_ring}
 use Rattle.plane.specs.Direction.{first_direction}
 use Rattle.drawing.specs.Relations.{is_among}

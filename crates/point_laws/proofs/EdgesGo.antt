@@ -1,7 +1,7 @@
 -- Edges that go leave the points of features.
-use Rattle.std.proofs.Common.{◌≡◌, ◌≢◌, ◌∙◌, ℕ, zero, ◌+◌, ◌<◌, arith, refl, sym, ap, subst, ◌⊎◌, inl, inr, ⊎_elim, Bool, true, false, cond, not, ◌&&◌, ◌||◌, ◌==◌, List, [], ◌∷◌, ◌++◌, map, eqb, eqb-true, Some}
+use Rattle.std.proofs.Common.{◌≡◌, ◌≢◌, ◌∙◌, ℕ, zero, ◌+◌, arith, refl, sym, ap, subst, ◌⊎◌, inl, inr, ⊎_elim, Bool, true, false, cond, not, ◌&&◌, ◌||◌, ◌==◌, List, [], ◌∷◌, ◌++◌, map, eqb, eqb-true, Some}
 use Rattle.std.specs.Prelude.{◌↔◌, IsTrue, option_map}
-use Rattle.std.specs.List.{Contains, list_any}
+use Rattle.std.specs.List.{Contains}
 use Rattle.std.proofs.lemmas.Bool.{and_parts, both_ways, eq-eqb, false≢true, false_from_ne_true, ne_eqb, or_cases}
 use Rattle.std.proofs.lemmas.List.Elements.{Contains-append_left, Contains-push}
 use Rattle.topo_base.specs.RationalPoint.{RationalPoint}
@@ -45,7 +45,7 @@ use Rattle.subdivision_laws.proofs.RingAdded.{FacesBelow, faces_below, faces_in_
 use Rattle.point_laws.specs.PointsStay.{KeepsPoints}
 use Rattle.point_laws.proofs.CutParity.{border_total, no_weight, total, total_without, weight}
 use Rattle.point_laws.proofs.EdgeGone.{IsBeside, IsLess, on_gone}
-use Rattle.point_laws.proofs.EdgePoints.{ListsAlike, SameNodes, edge_less, map_same, put_twice_same}
+use Rattle.point_laws.proofs.EdgePoints.{ListsAlike, edge_less, map_same, put_twice_same}
 use Rattle.point_laws.proofs.EdgesCome.{same_lists}
 use Rattle.point_laws.proofs.Follow.{above_same_rows, listed_anew, other_same_rows}
 use Rattle.point_laws.proofs.JoinedParity.{HasHalves, IsJoined, Pairs, in_halves, pairs_from, total_joined, total_other}

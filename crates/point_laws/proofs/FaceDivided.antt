@@ -1,33 +1,30 @@
 -- A face that is divided by an edge: its parts have its points.
-use Rattle.std.proofs.Common.{◌≡◌, ◌≢◌, ◌∙◌, ℕ, zero, None, ◌+◌, ◌<◌, arith, refl, sym, ap, subst, ◌⊎◌, inl, inr, ⊎_elim, Bool, true, false, cond, not, ◌||◌, ◌==◌, List, [], ◌∷◌, ◌++◌, filter, map, eqb, eqb-true}
+use Rattle.std.proofs.Common.{◌≡◌, ◌≢◌, ◌∙◌, ℕ, zero, None, refl, sym, ap, subst, ◌⊎◌, inl, inr, ⊎_elim, Bool, true, false, cond, not, ◌||◌, ◌==◌, List, [], ◌∷◌, ◌++◌, map, eqb, eqb-true}
 use Rattle.std.specs.Prelude.{◌↔◌, IsTrue, nat_eq, Some}
 use Rattle.std.specs.Option.{option_eq}
 use Rattle.std.specs.List.{Contains, list_any}
 use Rattle.std.proofs.lemmas.Bool.{and_parts, both_ways, eq-eqb, false_from_ne_true, ne_eqb, or_cases}
-use Rattle.std.proofs.lemmas.List.Elements.{Contains-append_cases, Contains-append_left, Contains-append_right, Contains-push, Contains-push_cases}
+use Rattle.std.proofs.lemmas.List.Elements.{Contains-push, Contains-push_cases}
 use Rattle.topo_base.specs.Point.{Point}
 use Rattle.topo_base.specs.RationalPoint.{RationalPoint}
 use Rattle.topo_base.specs.declared.kind.Kind.TheVariants.{Areal, Lineal, Puntal}
 use Rattle.topo_base.specs.declared.rows.NodeRow.{NodeRow}
 use Rattle.plane.specs.Parity.{xor}
 use Rattle.plane.proofs.ListTests.{contains_cases, contains_here, contains_none, contains_there}
-use Rattle.drawing.specs.AddEdge.{Division, coming, divided, divided_edge, face_at_start, divided_node, divided_side, keeps_left, one_new, part_beside, part_at, two_new}
+use Rattle.drawing.specs.AddEdge.{Division, coming, divided, divided_edge, face_at_start, divided_node, divided_side, part_beside, part_at}
 use Rattle.drawing.specs.Descent.{listed_by}
-use Rattle.drawing.specs.DrawnPoints.{IsOffEdges, IsOnEdge, is_in_face_at}
+use Rattle.drawing.specs.DrawnPoints.{IsOffEdges}
 use Rattle.drawing.specs.Drawing.{Drawing, Edge, has_face, node_id_of}
 use Rattle.drawing.specs.Faced.{is_in}
 use Rattle.drawing.specs.FeaturePoints.{OnSides}
 use Rattle.drawing.specs.HalfEdge.{HalfEdge, backward_of, forward_of, half_edges}
 use Rattle.drawing.specs.IsoEdits.{put_in_face, with_edge}
 use Rattle.drawing.specs.RemoveEdge.{renamed}
-use Rattle.drawing.specs.Relations.{face_type, follow, is_among}
-use Rattle.drawing.proofs.Members.{contains-filter, contains-filtered, contains-map, contains-mapped}
-use Rattle.ring_laws.proofs.Known.{any_in, any_out}
+use Rattle.drawing.specs.Relations.{face_type, is_among}
+use Rattle.drawing.proofs.Members.{contains-map, contains-mapped}
 use Rattle.parity_laws.proofs.JoinedFaces.{JoinedNumber}
 use Rattle.face_laws.proofs.Covering.{known}
-use Rattle.reference_laws.proofs.KnownRows.{has_of}
 use Rattle.subdivision_laws.specs.Subdivided.{IsSubdivided}
-use Rattle.subdivision_laws.proofs.RingAdded.{FacesBelow}
 use Rattle.local_laws.specs.Local.{IsAllowed}
 use Rattle.point_laws.specs.PointsStay.{KeepsPoints}
 use Rattle.point_laws.proofs.CutParity.{border_total, total, total_more}
@@ -37,7 +34,7 @@ use Rattle.point_laws.proofs.Follow.{above_same_rows, listed_anew, other_same_ro
 use Rattle.point_laws.proofs.JoinedParity.{HasHalves, IsJoined, Pairs, in_halves, pairs_to, total_joined, total_other}
 use Rattle.point_laws.proofs.Levels.{HasLevel}
 use Rattle.point_laws.proofs.NodeEdits.{in_front}
-use Rattle.point_laws.proofs.OneMore.{AreNamed, HasOneMore, IsRenamed}
+use Rattle.point_laws.proofs.OneMore.{HasOneMore, IsRenamed}
 use Rattle.point_laws.proofs.Primitive.{among_in, among_out, listing, rows_list}
 use Rattle.point_laws.proofs.Told.{IsTold}
 

@@ -1,7 +1,7 @@
 -- Edits of layers and features leave the points of others.
-use Rattle.std.proofs.Common.{◌≡◌, ◌≢◌, ◌∙◌, ℕ, zero, suc, ◌+◌, ◌<◌, arith, refl, sym, ap, subst, Bool, true, false, cond, not, ◌==◌, eq-eqb, eqb-true, List, [], ◌∷◌, ◌++◌, map, filter, Option, Some, None, is_some, inl, inr}
+use Rattle.std.proofs.Common.{◌≡◌, ◌≢◌, ◌∙◌, ℕ, zero, suc, ◌+◌, ◌<◌, arith, refl, sym, ap, subst, Bool, true, false, cond, not, ◌==◌, eq-eqb, eqb-true, List, [], ◌∷◌, ◌++◌, map, filter, Option, Some, is_some, inl, inr}
 use Rattle.std.specs.Prelude.{◌↔◌}
-use Rattle.std.specs.List.{Contains, list_any}
+use Rattle.std.specs.List.{Contains}
 use Rattle.std.proofs.lemmas.Bool.{and_from, false≢true, ne_eqb}
 use Rattle.topo_base.specs.RationalPoint.{RationalPoint}
 use Rattle.topo_base.specs.declared.edit.Pair.{Pair}

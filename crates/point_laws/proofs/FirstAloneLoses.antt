@@ -1,15 +1,10 @@
 -- The points that the second feature would lose, by computing.
-use Rattle.std.proofs.Common.{◌≡◌, ℕ, refl, sym, ap, subst, inl, inr, ⊎_elim, true, false, ◌==◌, List, [], ◌∷◌, eqb-true}
-use Rattle.std.specs.List.{Contains, list_any}
+use Rattle.std.proofs.Common.{◌≡◌, ℕ, refl, sym, subst, inl, inr, ⊎_elim, true, false, ◌==◌, [], ◌∷◌, eqb-true}
 use Rattle.std.proofs.lemmas.Bool.{false≢true, or_cases}
-use Rattle.topo_base.specs.RationalPoint.{RationalPoint, IsAt}
 use Rattle.topo_base.specs.declared.kind.Kind.TheVariants.{Areal}
-use Rattle.topo_base.specs.declared.rows.NodeRow.{NodeRow}
-use Rattle.plane.specs.Line.{segments_of}
 use Rattle.drawing.specs.DrawnPoints.{IsOffEdges, IsOffNodes}
-use Rattle.drawing.specs.Drawing.{Drawing, Edge}
 use Rattle.drawing.specs.Faced.{is_in}
-use Rattle.drawing.specs.FeaturePoints.{IsPointOf, IsPointOfElements}
+use Rattle.drawing.specs.FeaturePoints.{IsPointOfElements}
 use Rattle.drawing.specs.Relations.{is_among}
 use Rattle.drawing.specs.Replay.{after}
 use Rattle.subdivision_laws.specs.Subdivided.{IsSubdivided}

@@ -117,11 +117,12 @@ stays S type old new u w q c of is far =
 -- a feature none of whose rows is followed lists the same
 pub listed_same : (S : Drawing) (type : ℕ) (old new : List ℕ) (u w : ℕ) → ((r : RelationRow) → Contains S.relations r → r.topogeo_id ≡ u → (lists_element S type r.element_id r && is_among r.element_id old) ≡ false)
     → Contains (listed_in S.relations u) w ↔ Contains (listed_in (follow S type old new) u) w
-listed_same S type old new u w far =
-    (λ c. let l = lists_out S.relations u w c in stays S type old new u w l.row l.there l.of l.element (far l.row l.there l.of),
-    λ c.
-    let l = lists_out (follow S type old new) u w c in
-    by l.row l.of l.element (came S type old new S.relations l.row (in_ordered l.row (flat_map (followed S type old new) S.relations) l.there)))
+listed_same S type old new u w far = (
+  λ c. let l = lists_out S.relations u w c in stays S type old new u w l.row l.there l.of l.element (far l.row l.there l.of),
+  λ c.
+      let l = lists_out (follow S type old new) u w c in
+      by l.row l.of l.element (came S type old new S.relations l.row (in_ordered l.row (flat_map (followed S type old new) S.relations) l.there)),
+)
   where
     by : (r : RelationRow) → r.topogeo_id ≡ u → r.element_id ≡ w → Came S type old new S.relations r → Contains (listed_in S.relations u) w
     by r of is (Stayed c h) = lists_in S.relations u w (record { row = r; there = c; of = of; element = is })
@@ -130,11 +131,12 @@ listed_same S type old new u w far =
 -- a feature that lists elements of the type lists the new ones for the old ones
 pub listed_anew : (S : Drawing) (type : ℕ) (old new : List ℕ) (u w : ℕ) → ((r : RelationRow) → Contains S.relations r → r.topogeo_id ≡ u → lists_element S type r.element_id r ≡ true)
     → Contains (listed_in (follow S type old new) u) w ↔ ((Contains (listed_in S.relations u) w × (is_among w old ≡ false)) ⊎ (Contains new w × ((o : ℕ) × (Contains (listed_in S.relations u) o × (is_among o old ≡ true)))))
-listed_anew S type old new u w lists =
-    (λ c.
-    let l = lists_out (follow S type old new) u w c in
-    by l.row l.of l.element (came S type old new S.relations l.row (in_ordered l.row (flat_map (followed S type old new) S.relations) l.there)),
-    λ k. ⊎_elim kept made k)
+listed_anew S type old new u w lists = (
+  λ c.
+      let l = lists_out (follow S type old new) u w c in
+      by l.row l.of l.element (came S type old new S.relations l.row (in_ordered l.row (flat_map (followed S type old new) S.relations) l.there)),
+  λ k. ⊎_elim kept made k,
+)
   where
     rest_false : (a b : Bool) → a ≡ true → (a && b) ≡ false → b ≡ false
     rest_false true b e h = h

@@ -1,25 +1,22 @@
 -- Two edges that are joined leave the points of features.
-use Rattle.std.proofs.Common.{◌≡◌, ◌≢◌, ◌∙◌, ℕ, zero, ◌+◌, ◌≤◌, arith, refl, sym, ap, subst, ◌⊎◌, inl, inr, ⊎_elim, Bool, true, false, ◌||◌, ◌==◌, List, [], ◌∷◌, eqb, eqb-true}
-use Rattle.std.specs.Prelude.{◌↔◌, IsTrue, reverse}
+use Rattle.std.proofs.Common.{◌≡◌, ◌∙◌, ℕ, zero, ◌+◌, arith, refl, sym, ap, subst, ◌⊎◌, inl, inr, ⊎_elim, Bool, true, false, ◌||◌, ◌==◌, List, [], ◌∷◌, eqb-true}
+use Rattle.std.specs.Prelude.{◌↔◌, reverse}
 use Rattle.std.specs.List.{Contains}
-use Rattle.std.proofs.lemmas.Bool.{both_ways, eq-eqb, false≢true, ne_eqb, or_cases, or_left, or_right}
+use Rattle.std.proofs.lemmas.Bool.{both_ways, false≢true, ne_eqb, or_cases, or_left, or_right}
 use Rattle.std.proofs.lemmas.List.{reverse-reverse}
-use Rattle.topo_base.specs.Point.{Point}
 use Rattle.topo_base.specs.RationalPoint.{RationalPoint}
 use Rattle.topo_base.specs.declared.kind.Kind.{Kind}
 use Rattle.topo_base.specs.declared.kind.Kind.TheVariants.{Areal, Lineal, Puntal}
 use Rattle.topo_base.specs.declared.rows.Counters.{Counters}
-use Rattle.topo_base.specs.declared.rows.NodeRow.{NodeRow}
 use Rattle.plane.specs.Line.{segments_of}
 use Rattle.plane.specs.RationalTests.{IsOnLine}
-use Rattle.plane.specs.Segment.{Segment}
 use Rattle.plane.proofs.LineTurns.{reverse_on}
 use Rattle.plane.proofs.ListTests.{contains_cases, contains_here, contains_none, contains_there}
 use Rattle.drawing.specs.Descent.{listed_by}
-use Rattle.drawing.specs.DrawnPoints.{IsOffEdges, IsOnEdge, is_in_face_at}
+use Rattle.drawing.specs.DrawnPoints.{IsOnEdge, is_in_face_at}
 use Rattle.drawing.specs.Drawing.{Drawing, Edge, edge_id_of}
-use Rattle.drawing.specs.FeaturePoints.{AtNodes, OnEdges, IsPointOfElements}
-use Rattle.drawing.specs.HalfEdge.{HalfEdge, backward_of, forward_of, half_edges, twin}
+use Rattle.drawing.specs.FeaturePoints.{OnEdges, IsPointOfElements}
+use Rattle.drawing.specs.HalfEdge.{HalfEdge, half_edges, twin}
 use Rattle.drawing.specs.HealEdges.{heal_mod_done, heal_new_done, joined_edge}
 use Rattle.drawing.specs.Relations.{edge_type, follow, is_among}
 use Rattle.drawing.proofs.Members.{ids_within}
@@ -56,9 +53,10 @@ use Rattle.point_laws.proofs.Told.{IsTold}
 -- it has the edge's line
 on_half : (x : Edge) (h k : HalfEdge) (q : RationalPoint) → AreBoth x h k → IsOnEdge q x ↔ IsOnLine q h.points
 on_half x h k q (inl b) = (λ on. subst (λ (z : HalfEdge). IsOnLine q z.points) b.0 on, λ on. subst (λ (z : HalfEdge). IsOnLine q z.points) (sym b.0) on)
-on_half x h k q (inr b) =
-    (λ on. subst (λ (z : HalfEdge). IsOnLine q z.points) b.0 (reverse_on (reverse x.geom) q (subst (IsOnLine q) (sym (reverse-reverse x.geom)) on)),
-    λ on. reverse_on x.geom q (subst (λ (z : HalfEdge). IsOnLine q z.points) (sym b.0) on))
+on_half x h k q (inr b) = (
+  λ on. subst (λ (z : HalfEdge). IsOnLine q z.points) b.0 (reverse_on (reverse x.geom) q (subst (IsOnLine q) (sym (reverse-reverse x.geom)) on)),
+  λ on. reverse_on x.geom q (subst (λ (z : HalfEdge). IsOnLine q z.points) (sym b.0) on),
+)
 
 -- and its sides
 abbrev has_side : Edge → List ℕ → Bool
@@ -162,10 +160,10 @@ area_to_healed : (S : Drawing) (n : ℕ) (e f : Edge) (id : ℕ) (fs : List Edge
 area_to_healed S n e f id fs ids xs ys q h lists (inl (off, (g, (among, inside)))) =
     inl (
       λ x cx on. ⊎_elim
-      (λ (old : Contains S.edges x × (x.edge_id ≡ e.edge_id → ⊥) × (x.edge_id ≡ f.edge_id → ⊥)). off x old.0 on)
-      (λ (is : joined_edge n e f id ≡ x).
-      ⊎_elim (λ (a : IsOnEdge q e). off e h.edges.e_there a) (λ (b : IsOnEdge q f). off f h.edges.f_there b) ((one_edge S n e f id fs ids h).on q (subst (IsOnEdge q) (sym is) on)))
-      (h.edges.from x cx),
+          (λ (old : Contains S.edges x × (x.edge_id ≡ e.edge_id → ⊥) × (x.edge_id ≡ f.edge_id → ⊥)). off x old.0 on)
+          (λ (is : joined_edge n e f id ≡ x).
+          ⊎_elim (λ (a : IsOnEdge q e). off e h.edges.e_there a) (λ (b : IsOnEdge q f). off f h.edges.f_there b) ((one_edge S n e f id fs ids h).on q (subst (IsOnEdge q) (sym is) on)))
+          (h.edges.from x cx),
       (g, (among_same g xs ys lists among, same_in S (healed S n e f id fs ids) g q h.told.before refl (λ m. parity S n e f id fs ids h m q) inside)),
     )
 area_to_healed S n e f id fs ids xs ys q h lists (inr (x, (cx, sides, on))) =
@@ -189,13 +187,13 @@ area_from_healed : (S : Drawing) (n : ℕ) (e f : Edge) (id : ℕ) (fs : List Ed
 area_from_healed S n e f id fs ids xs ys q h lists (inl (off, (g, (among, inside)))) =
     inl (
       λ x cx on. ⊎_elim
-      (λ (is : x ≡ e). off (joined_edge n e f id) h.edges.made (one.first q (subst (IsOnEdge q) is on)))
-      (λ (o : (x ≡ f) ⊎ ((x.edge_id ≡ e.edge_id → ⊥) × (x.edge_id ≡ f.edge_id → ⊥))).
-      ⊎_elim
-      (λ (is : x ≡ f). off (joined_edge n e f id) h.edges.made (one.second q (subst (IsOnEdge q) is on)))
-      (λ (far : (x.edge_id ≡ e.edge_id → ⊥) × (x.edge_id ≡ f.edge_id → ⊥)). off x (h.edges.old x cx far.0 far.1) on)
-      o)
-      (edge_cases S n e f id fs x (has_plain_lines S h.told.before.covered.ringed.rings) h.edges cx),
+          (λ (is : x ≡ e). off (joined_edge n e f id) h.edges.made (one.first q (subst (IsOnEdge q) is on)))
+          (λ (o : (x ≡ f) ⊎ ((x.edge_id ≡ e.edge_id → ⊥) × (x.edge_id ≡ f.edge_id → ⊥))).
+          ⊎_elim
+          (λ (is : x ≡ f). off (joined_edge n e f id) h.edges.made (one.second q (subst (IsOnEdge q) is on)))
+          (λ (far : (x.edge_id ≡ e.edge_id → ⊥) × (x.edge_id ≡ f.edge_id → ⊥)). off x (h.edges.old x cx far.0 far.1) on)
+          o)
+          (edge_cases S n e f id fs x (has_plain_lines S h.told.before.covered.ringed.rings) h.edges cx),
       (g, (among_same g ys xs lists among, same_in (healed S n e f id fs ids) S g q h.later refl (λ m. sym (parity S n e f id fs ids h m q)) inside)),
     )
   where
@@ -319,14 +317,16 @@ heals S n e f id fs ids h t before still =
     by : (kind : Kind) (u : ℕ) (q : RationalPoint) → HasLevel S kind zero u → IsPointOfElements S kind (listed_by S u) q ↔ IsPointOfElements T kind (listed_by T u) q
     by Puntal u q k =
         let goes = goes_at S u n q h.told.rows h.may.unlisted k in
-        let same : (w : ℕ) → Contains (listed_by S u) w ↔ Contains (listed_by T u) w = λ w. other_same_rows S edge_type old (id ∷ []) Puntal u w h.told.rows refl k in
-        (λ p. let m = goes.0 p in (m.0, (m.1.0, among_same m.0.node_id (listed_by S u) (listed_by T u) (λ w. (same w).0) m.1.1, m.1.2)),
-        λ p. goes.1 (p.0, (p.1.0, among_same p.0.node_id (listed_by T u) (listed_by S u) (λ w. (same w).1) p.1.1, p.1.2)))
+        let same : (w : ℕ) → Contains (listed_by S u) w ↔ Contains (listed_by T u) w = λ w. other_same_rows S edge_type old (id ∷ []) Puntal u w h.told.rows refl k in (
+          λ p. let m = goes.0 p in (m.0, (m.1.0, among_same m.0.node_id (listed_by S u) (listed_by T u) (λ w. (same w).0) m.1.1, m.1.2)),
+          λ p. goes.1 (p.0, (p.1.0, among_same p.0.node_id (listed_by T u) (listed_by S u) (λ w. (same w).1) p.1.1, p.1.2)),
+        )
     by Lineal u q k = edges_healed S n e f id fs ids u q h k
     by Areal u q k =
-        let same : (w : ℕ) → Contains (listed_by S u) w ↔ Contains (listed_by T u) w = λ w. other_same_rows S edge_type old (id ∷ []) Areal u w h.told.rows refl k in
-        (λ p. area_to T (listed_by T u) q h.later (area_to_healed S n e f id fs ids (listed_by S u) (listed_by T u) q h (λ w. (same w).0) (area_from S (listed_by S u) q h.told.before p)),
-        λ p. area_to S (listed_by S u) q h.told.before (area_from_healed S n e f id fs ids (listed_by S u) (listed_by T u) q h (λ w. (same w).1) (area_from T (listed_by T u) q h.later p)))
+        let same : (w : ℕ) → Contains (listed_by S u) w ↔ Contains (listed_by T u) w = λ w. other_same_rows S edge_type old (id ∷ []) Areal u w h.told.rows refl k in (
+          λ p. area_to T (listed_by T u) q h.later (area_to_healed S n e f id fs ids (listed_by S u) (listed_by T u) q h (λ w. (same w).0) (area_from S (listed_by S u) q h.told.before p)),
+          λ p. area_to S (listed_by S u) q h.told.before (area_from_healed S n e f id fs ids (listed_by S u) (listed_by T u) q h (λ w. (same w).1) (area_from T (listed_by T u) q h.later p)),
+        )
 
 -- the first edge is what they become
 pub edges_joined : (S : Drawing) (e f : Edge) (n : ℕ) → EdgesMayBeJoined S e f n → IsTold S → IsSubdivided ((heal_mod_done S e f n).drawing) → KeepsPoints S ((heal_mod_done S e f n).drawing)

@@ -40,9 +40,10 @@ pub record StaysBelow (S T : Drawing) (Q : ℕ → ℕ → Type 0) (kind : Kind)
 
 pub lift : (S T : Drawing) (Q : ℕ → ℕ → Type 0) (kind : Kind) (q : RationalPoint) → StaysBelow S T Q kind q → (n u : ℕ) → Q n u → IsPointAtLevel S kind n u q ↔ IsPointAtLevel T kind n u q
 lift S T Q kind q h zero u k = h.base u k
-lift S T Q kind q h (suc n) u k =
-    (λ p. (p.0, ((h.rows n u p.0 k).0 p.1.0, (lift S T Q kind q h n p.0 (h.down n u p.0 k p.1.0)).0 p.1.1)),
-    λ p. let c = (h.rows n u p.0 k).1 p.1.0 in (p.0, (c, (lift S T Q kind q h n p.0 (h.down n u p.0 k c)).1 p.1.1)))
+lift S T Q kind q h (suc n) u k = (
+  λ p. (p.0, ((h.rows n u p.0 k).0 p.1.0, (lift S T Q kind q h n p.0 (h.down n u p.0 k p.1.0)).0 p.1.1)),
+  λ p. let c = (h.rows n u p.0 k).1 p.1.0 in (p.0, (c, (lift S T Q kind q h n p.0 (h.down n u p.0 k c)).1 p.1.1)),
+)
 
 -- what a feature lists, by rows
 pub row_of : (S : Drawing) (t w : ℕ) → Contains (listed_by S t) w → (r : RelationRow) × (Contains S.relations r × (r.topogeo_id ≡ t) × (r.element_id ≡ w))

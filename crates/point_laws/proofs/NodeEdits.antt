@@ -1,8 +1,6 @@
 -- Isolated nodes that come, move and go leave the points of features.
-use Rattle.std.proofs.Common.{◌≡◌, ◌∙◌, ℕ, zero, suc, ◌+◌, arith, refl, sym, ap, subst, ⊎_elim, inr, Bool, true, false, cond, not, ◌==◌, eqb-true, List, [], ◌∷◌, ◌++◌, Option, Some, None, is_some}
+use Rattle.std.proofs.Common.{◌≡◌, ◌∙◌, ℕ, zero, suc, ◌+◌, arith, refl, sym, ap, subst, ⊎_elim, inr, Bool, true, false, cond, not, ◌==◌, eqb-true, List, [], ◌∷◌, ◌++◌, Some}
 use Rattle.std.specs.Prelude.{◌↔◌}
-use Rattle.std.specs.Option.{option_eq}
-use Rattle.std.specs.Prelude.{nat_eq}
 use Rattle.std.specs.List.{Contains}
 use Rattle.std.proofs.lemmas.List.Elements.{Contains-push_cases}
 use Rattle.topo_base.specs.Point.{Point}
@@ -12,10 +10,8 @@ use Rattle.topo_base.specs.declared.kind.Kind.TheVariants.{Puntal, Lineal, Areal
 use Rattle.topo_base.specs.declared.rows.Counters.{Counters}
 use Rattle.topo_base.specs.declared.rows.NodeRow.{NodeRow}
 use Rattle.topo_base.specs.declared.rows.RelationRow.{RelationRow}
-use Rattle.drawing.specs.Blocked.{is_blocked, is_blocked_for}
 use Rattle.drawing.specs.Descent.{listed_by}
-use Rattle.drawing.specs.Drawing.{Drawing, feature_at, is_isolated, node_id_of}
-use Rattle.drawing.specs.Faces.{face_at}
+use Rattle.drawing.specs.Drawing.{Drawing, node_id_of}
 use Rattle.drawing.specs.FeaturePoints.{AtNodes, IsPointOfElements}
 use Rattle.drawing.specs.IsoEdits.{is_in_feature, put_at, with_node}
 use Rattle.drawing.specs.Relations.{features_of, is_among, lists_element, node_type}
@@ -63,11 +59,12 @@ in_front x (z ∷ xs) ys c = ⊎_elim (λ (e : z ≡ x). subst (Contains (z ∷ 
 
 pub comes_at : (S : Drawing) (u : ℕ) (q : RationalPoint) (new : NodeRow) (next : Counters) → KnowsRows S → InOrder node_id_of 1 S.next_ids.node S.nodes → new.node_id ≡ S.next_ids.node → HasLevel S Puntal zero u
     → AtNodes S (listed_by S u) q ↔ AtNodes (with_nodes S (S.nodes ++ new ∷ []) next) (listed_by S u) q
-comes_at S u q new next knows ascend is k =
-    (λ p. (p.0, (in_front p.0 S.nodes (new ∷ []) p.1.0, p.1.1, p.1.2)),
-    λ p. ⊎_elim (λ (old : Contains S.nodes p.0). (p.0, (old, p.1.1, p.1.2)))
-    (λ (fresh : new ≡ p.0). absurd (not_listed (subst (λ (n : NodeRow). Contains (listed_by S u) n.node_id) (sym fresh) (among_out p.0.node_id (listed_by S u) p.1.1))))
-    (Contains-push_cases S.nodes new p.0 p.1.0))
+comes_at S u q new next knows ascend is k = (
+  λ p. (p.0, (in_front p.0 S.nodes (new ∷ []) p.1.0, p.1.1, p.1.2)),
+  λ p. ⊎_elim (λ (old : Contains S.nodes p.0). (p.0, (old, p.1.1, p.1.2)))
+      (λ (fresh : new ≡ p.0). absurd (not_listed (subst (λ (n : NodeRow). Contains (listed_by S u) n.node_id) (sym fresh) (among_out p.0.node_id (listed_by S u) p.1.1))))
+      (Contains-push_cases S.nodes new p.0 p.1.0),
+)
   where
     not_listed : Contains (listed_by S u) new.node_id → ⊥
     not_listed c =
@@ -91,9 +88,10 @@ node_more S face p h later t before still =
 -- ---- a node goes
 pub goes_at : (S : Drawing) (u gone : ℕ) (q : RationalPoint) → KnowsRows S → is_in_feature S node_type gone ≡ false → HasLevel S Puntal zero u
     → AtNodes S (listed_by S u) q ↔ AtNodes (with_nodes S (without_row node_id_of S.nodes gone) S.next_ids) (listed_by S u) q
-goes_at S u gone q knows free k =
-    (λ p. (p.0, (contains-filter (λ (row : NodeRow). not (node_id_of row == gone)) p.0 S.nodes p.1.0 (ap not (other p.0.node_id (among_out p.0.node_id (listed_by S u) p.1.1))), p.1.1, p.1.2)),
-    λ p. (p.0, ((contains-filtered (λ (row : NodeRow). not (node_id_of row == gone)) p.0 S.nodes p.1.0).0, p.1.1, p.1.2)))
+goes_at S u gone q knows free k = (
+  λ p. (p.0, (contains-filter (λ (row : NodeRow). not (node_id_of row == gone)) p.0 S.nodes p.1.0 (ap not (other p.0.node_id (among_out p.0.node_id (listed_by S u) p.1.1))), p.1.1, p.1.2)),
+  λ p. (p.0, ((contains-filtered (λ (row : NodeRow). not (node_id_of row == gone)) p.0 S.nodes p.1.0).0, p.1.1, p.1.2)),
+)
   where
     other : (id : ℕ) → Contains (listed_by S u) id → (id == gone) ≡ false
     other id c = let l = listing S Puntal u id knows k c in ap (λ n. n == gone) (sym l.element) ∙ is_free S node_type gone free l.row l.there l.lists
@@ -112,9 +110,10 @@ Away S node n u = IsApartFromNode S node u
 
 moves_at : (S : Drawing) (u node : ℕ) (p : Point) (q : RationalPoint) → KnowsRows S → IsApartFromNode S node u → HasLevel S Puntal zero u
     → AtNodes S (listed_by S u) q ↔ AtNodes (with_nodes S (put_at p node S.nodes) S.next_ids) (listed_by S u) q
-moves_at S u node p q knows apart k =
-    (λ r. (r.0, (subst (Contains (put_at p node S.nodes)) (same r.0 (among_out r.0.node_id (listed_by S u) r.1.1)) (contains-map change r.0 S.nodes r.1.0), r.1.1, r.1.2)),
-    λ r. let (row, (c, is)) = contains-mapped change r.0 S.nodes r.1.0 in back r.0 row c is r.1.1 r.1.2)
+moves_at S u node p q knows apart k = (
+  λ r. (r.0, (subst (Contains (put_at p node S.nodes)) (same r.0 (among_out r.0.node_id (listed_by S u) r.1.1)) (contains-map change r.0 S.nodes r.1.0), r.1.1, r.1.2)),
+  λ r. let (row, (c, is)) = contains-mapped change r.0 S.nodes r.1.0 in back r.0 row c is r.1.1 r.1.2,
+)
   where
     change : NodeRow → NodeRow
     change row = cond (node_id_of row == node) (record row { geom = p }) row

@@ -120,9 +120,14 @@ area_less S T e name f xs ys q t h lists (inr (y, (cy, sides, on))) = ⊎_elim o
 
     old : (x : Edge) × (Contains S.edges x × IsRenamed name x y) → InArea S xs q
     old (x, (cx, r)) =
-        inr (x, (cx,
-        either_of y.left_face y.right_face x.left_face x.right_face ys xs (λ k. subst (λ m. is_among m xs ≡ true) (sym r.left) ((lists y.left_face listed.0).1 k)) (λ k. subst (λ m. is_among m xs ≡ true) (sym r.right) ((lists y.right_face listed.1).1 k)) sides,
-        subst (λ line. IsOnEdge q (record y { geom = line })) (sym r.geom) on))
+        inr (
+          x,
+          (
+            cx,
+            either_of y.left_face y.right_face x.left_face x.right_face ys xs (λ k. subst (λ m. is_among m xs ≡ true) (sym r.left) ((lists y.left_face listed.0).1 k)) (λ k. subst (λ m. is_among m xs ≡ true) (sym r.right) ((lists y.right_face listed.1).1 k)) sides,
+            subst (λ line. IsOnEdge q (record y { geom = line })) (sym r.geom) on,
+          ),
+        )
 
     fresh : e ≡ y → InArea S xs q
     fresh is =

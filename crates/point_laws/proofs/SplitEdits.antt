@@ -1,23 +1,22 @@
 -- Edges that are split leave the points of features of nodes and of edges.
-use Rattle.std.proofs.Common.{◌≡◌, ◌≢◌, ◌∙◌, ℕ, zero, ◌+◌, arith, refl, sym, ap, subst, ◌⊎◌, inl, inr, ⊎_elim, Bool, true, false, not, ◌&&◌, ◌||◌, ◌==◌, eq-eqb, eqb-true, List, [], ◌∷◌, ◌++◌, Option, Some, None}
+use Rattle.std.proofs.Common.{◌≡◌, ◌≢◌, ◌∙◌, ℕ, zero, ◌+◌, arith, refl, sym, ap, subst, ◌⊎◌, inl, inr, ⊎_elim, true, false, ◌||◌, ◌==◌, eq-eqb, eqb-true, List, [], ◌∷◌, ◌++◌}
 use Rattle.std.specs.Prelude.{◌↔◌, IsTrue}
 use Rattle.std.specs.List.{Contains, list_all}
-use Rattle.std.proofs.lemmas.Bool.{and_parts, false≢true, ne_eqb, or_cases, or_left, or_right}
+use Rattle.std.proofs.lemmas.Bool.{false≢true, ne_eqb, or_cases, or_left, or_right}
 use Rattle.topo_base.specs.Kinds.{kind_number}
 use Rattle.topo_base.specs.Point.{Point}
 use Rattle.topo_base.specs.RationalPoint.{RationalPoint}
 use Rattle.topo_base.specs.declared.kind.Kind.{Kind}
 use Rattle.topo_base.specs.declared.kind.Kind.TheVariants.{Puntal, Lineal, Areal}
 use Rattle.topo_base.specs.declared.rows.Counters.{Counters}
-use Rattle.topo_base.specs.declared.rows.RelationRow.{RelationRow}
 use Rattle.drawing.specs.Descent.{listed_by}
-use Rattle.drawing.specs.Drawing.{Drawing, Edge, edge_id_of, node_id_of}
+use Rattle.drawing.specs.Drawing.{Drawing, Edge, edge_id_of}
 use Rattle.drawing.specs.FeaturePoints.{AtNodes, OnEdges, IsPointOfElements}
-use Rattle.plane.specs.Line.{is_inside_line, is_proper, line_from, line_up_to, segments_of}
+use Rattle.plane.specs.Line.{is_proper, line_from, line_up_to, segments_of}
 use Rattle.plane.specs.RationalTests.{IsOn, IsOnLine}
 use Rattle.drawing.specs.DrawnPoints.{IsOnEdge, is_in_face_at}
 use Rattle.plane.specs.Relation.{IsProper, SameCoordinates}
-use Rattle.drawing.specs.Relations.{edge_type, follow, is_among, is_hierarchical, lists_element}
+use Rattle.drawing.specs.Relations.{edge_type, follow, is_among}
 use Rattle.drawing.specs.Rows.{with_change, without_row}
 use Rattle.plane.specs.Segment.{Segment}
 use Rattle.drawing.specs.SplitEdge.{first_part, second_part}
@@ -112,7 +111,7 @@ old_only w n h = ⊎_elim (λ (e : (n == w) ≡ true). sym (eqb-true n w e)) (λ
 
 split_lineal : (S : Drawing) (e : Edge) (p : Point) (id id' : ℕ) (fs : List Edge) (ids : Counters) (u : ℕ) (q : RationalPoint) → KnowsRows S → HasPlainLines S → IsSplitInto S e p id id' fs → AreNewIds S e id id' → HasLevel S Lineal zero u
     → OnEdges S (listed_by S u) q
-        ↔ OnEdges (split_with S p fs (follow S edge_type (e.edge_id ∷ []) (id ∷ id' ∷ [])) ids) (listed_by (split_with S p fs (follow S edge_type (e.edge_id ∷ []) (id ∷ id' ∷ [])) ids) u) q
+    ↔ OnEdges (split_with S p fs (follow S edge_type (e.edge_id ∷ []) (id ∷ id' ∷ [])) ids) (listed_by (split_with S p fs (follow S edge_type (e.edge_id ∷ []) (id ∷ id' ∷ [])) ids) u) q
 split_lineal S e p id id' fs ids u q knows good split new k = (to, from)
   where
     T : Drawing
@@ -269,17 +268,19 @@ parts_keep S e p id id' fs next h split new same later t before still =
     nodes : (u : ℕ) (q : RationalPoint) → HasLevel S Puntal zero u → AtNodes S (listed_by S u) q ↔ AtNodes T (listed_by T u) q
     nodes u q k =
         let come = comes_at S u q (new_node S.next_ids.node p) S.next_ids h.rows h.order.nodes refl k in
-        let lists = unfollowed Puntal u k refl in
-        (λ r. let m = come.0 r in (m.0, (m.1.0, among_same m.0.node_id (listed_by S u) (listed_by T u) (λ v. (lists v).0) m.1.1, m.1.2)),
-        λ r. come.1 (r.0, (r.1.0, among_same r.0.node_id (listed_by T u) (listed_by S u) (λ v. (lists v).1) r.1.1, r.1.2)))
+        let lists = unfollowed Puntal u k refl in (
+          λ r. let m = come.0 r in (m.0, (m.1.0, among_same m.0.node_id (listed_by S u) (listed_by T u) (λ v. (lists v).0) m.1.1, m.1.2)),
+          λ r. come.1 (r.0, (r.1.0, among_same r.0.node_id (listed_by T u) (listed_by S u) (λ v. (lists v).1) r.1.1, r.1.2)),
+        )
 
     by : (kind : Kind) (u : ℕ) (q : RationalPoint) → HasLevel S kind zero u → IsPointOfElements S kind (listed_by S u) q ↔ IsPointOfElements T kind (listed_by T u) q
     by Puntal u q k = nodes u q k
     by Lineal u q k = split_lineal S e p id id' fs next u q h.rows good split new k
     by Areal u q k =
-        let lists = unfollowed Areal u k refl in
-        (λ r. area_to T (listed_by T u) q later (to_split S T e p id id' fs (listed_by S u) (listed_by T u) q h.before area (λ v. (lists v).0) (area_from S (listed_by S u) q h.before r)),
-        λ r. area_to S (listed_by S u) q h.before (from_split S T e p id id' fs (listed_by S u) (listed_by T u) q later area (λ v. (lists v).1) (area_from T (listed_by T u) q later r)))
+        let lists = unfollowed Areal u k refl in (
+          λ r. area_to T (listed_by T u) q later (to_split S T e p id id' fs (listed_by S u) (listed_by T u) q h.before area (λ v. (lists v).0) (area_from S (listed_by S u) q h.before r)),
+          λ r. area_to S (listed_by S u) q h.before (from_split S T e p id id' fs (listed_by S u) (listed_by T u) q later area (λ v. (lists v).1) (area_from T (listed_by T u) q later r)),
+        )
 
 -- the next ids are no old edge's
 fresh_id : (S : Drawing) (e : Edge) (k : ℕ) → InOrder edge_id_of 1 S.next_ids.edge S.edges → (x : Edge) → Contains S.edges x → x.edge_id ≡ S.next_ids.edge + k → x.edge_id ≡ e.edge_id

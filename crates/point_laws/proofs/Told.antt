@@ -1,8 +1,5 @@
 -- What the laws of points are told of the drawing before a change.
-use Rattle.std.specs.Prelude.{IsTrue}
-use Rattle.drawing.specs.Drawing.{Drawing, edge_id_of, feature_id_of, node_id_of}
-use Rattle.drawing.specs.Subdivision.{face_id_of}
-use Rattle.drawing.proofs.Ordering.{InOrder}
+use Rattle.drawing.specs.Drawing.{Drawing}
 use Rattle.edit_changes.proofs.IdsOrdering.{AllInOrder, order_of}
 use Rattle.relation_rows.proofs.KnownFeatures.{references_parts}
 use Rattle.reference_laws.proofs.KnownRows.{KnowsRows}
