@@ -1,0 +1,26 @@
+//! The laws of an added edge, each carried by a function that does nothing.
+
+ghost use Rattle.local_laws.specs.Boxes.{PartsLieInBoxes};
+ghost use Rattle.local_laws.specs.Lines.{LinesLieInFaces};
+ghost use Rattle.local_laws.specs.Parts.{DivisionIsLocal};
+
+/// In a subdivision a simple line between two nodes that isn't blocked has the same face at both of its ends. So the
+/// rule LineBlocked refuses no line by its faces alone, and where an edge may come, each point of its line but the
+/// ends is in its face.
+pub fn line_law()
+    ensures { LinesLieInFaces }
+{}
+
+/// Where an edge divides a face, no vertex of another ring of that face is one of the edge's left ring, and they are
+/// all on its left or none is: the part that has any one of them is the part beside the ring. A vertex of the edge's
+/// right ring that is none of its left ring is not on its left.
+pub fn division_law()
+    ensures { DivisionIsLocal }
+{}
+
+/// A point over which a ring is odd is in each box that has the ring's vertices. Each vertex of another ring of the
+/// divided face, and each node in that face, is on the left of exactly one of the edge's two rings. So whatever of
+/// the face is out of the box of one of the two, where that is a shell, is in the other part.
+pub fn box_law()
+    ensures { PartsLieInBoxes }
+{}
