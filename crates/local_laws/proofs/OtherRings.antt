@@ -21,7 +21,7 @@ use Rattle.parity_laws.specs.Rings.{In, Drawn, Ringwise, those}
 use Rattle.parity_laws.specs.Shelling.{IsRingOf, OneShell, NoShell}
 use Rattle.parity_laws.proofs.BesideParts.{beside_vertex, off_first_ring}
 use Rattle.parity_laws.proofs.Dividing.{Divides, Place, in_a, in_b, elsewhere, place, side_ringwise, second_part, divided_sides, outer_divided_sides}
-use Rattle.parity_laws.proofs.DividedShells.{divided_shells, outer_divided_shells}
+use Rattle.parity_laws.proofs.DividedShells.{divided_shells, outer_divided_shells, one_is_shell}
 use Rattle.parity_laws.proofs.FaceShells.{IsRingAt}
 use Rattle.parity_laws.proofs.Labels.{rings_same}
 use Rattle.parity_laws.proofs.Orbits.{label_even}
@@ -272,6 +272,19 @@ has_parts T e d h = record {
   shell_a = (parted_shells T e d h).0;
   shell_b = (parted_shells T e d h).1;
 }
+  where
+    drawn : Drawn (steps_of T)
+    drawn = drawn_of T (good_of T e d h)
+
+-- where the left ring is a hole the right one is a shell
+pub right_shell : (T : Drawing) (e : Edge) (d : Division) → IsParted T e d → left (left_steps T e) (start e) ≡ false → left (right_steps T e) (back (start e)) ≡ true
+right_shell T e d h hole =
+    ⊎_elim
+    (λ (k : IsInner T e d).
+    let both = divided_shells (steps_of T) (face_of T) (Parted T e d) d.face d.left_part d.right_part (start e) (left_label T e) (right_label T e) drawn (rings_there (steps_of T) drawn) (divides T e d h) k.0 k.1 k.2 k.3 in
+    one_is_shell (steps_of T) (face_of T) (Parted T e d) d.face d.left_part d.right_part (start e) (left_label T e) (right_label T e) drawn (divides T e d h) both.0 both.1 k.3 hole)
+    (λ (k : IsOuter T e d). k.2 ∙ ap not hole)
+    h.kind
   where
     drawn : Drawn (steps_of T)
     drawn = drawn_of T (good_of T e d h)

@@ -1,5 +1,5 @@
 -- The laws of a divided face, from those of the rings on the two sides of its edge.
-use Rattle.std.proofs.Common.{◌≡◌, refl, sym, ◌∙◌, ap, subst, ⊎_elim, Bool, true, false, not, cond, List, Some}
+use Rattle.std.proofs.Common.{◌≡◌, refl, sym, ◌∙◌, ap, subst, ⊎_elim, Bool, true, false, not, cond, List, Some, IsTrue, ◌||◌}
 use Rattle.std.specs.List.{Contains}
 use Rattle.std.proofs.lemmas.Bool.{false_from_ne_true}
 use Rattle.topo_base.specs.Point.{Point}
@@ -24,7 +24,7 @@ use Rattle.subdivision_laws.proofs.DividedFaces.{IsParted, left_label, right_lab
 use Rattle.local_laws.specs.Boxes.{IsInBox, HasAll, IsOfFace, PartsLieInBoxes}
 use Rattle.local_laws.specs.Parts.{IsToDivide, IsOfOther, IsVertex, DivisionIsLocal}
 use Rattle.local_laws.proofs.Dividing.{edge_of, one_part, parted, node_placed}
-use Rattle.local_laws.proofs.OtherRings.{IsOther, other_apart, other_above, right_above, start_is_vertex, other_of_one, point_of_face, over_in_box}
+use Rattle.local_laws.proofs.OtherRings.{IsOther, other_apart, other_above, right_above, right_shell, start_is_vertex, other_of_one, point_of_face, over_in_box}
 
 -- ---- a drawing whose edge e divides a face
 -- the test at a vertex of another ring
@@ -138,6 +138,21 @@ division_is_local = record {
 }
 
 -- ---- boxes
+one_shell : (T : Drawing) (d : Division) → IsToDivide T d → IsTrue (is_shell d.left_ring || is_shell d.right_ring)
+one_shell T d k =
+    subst (λ ring. IsTrue (is_shell ring || is_shell d.right_ring)) (sym (left_is_ring T d k))
+    (subst (λ ring. IsTrue (is_shell (ring_of (half_edges T) (forward_of (edge_of T d k))) || is_shell ring)) (sym (right_is_ring T d k))
+    (by_left (is_shell (ring_of (half_edges T) (forward_of (edge_of T d k)))) (is_shell (ring_of (half_edges T) (backward_of (edge_of T d k)))) (λ hole.
+    shell_is T (backward_of (edge_of T d k)) (back (start (edge_of T d k))) p.before.rings (back_in T (edge_of T d k) (one_part T d) p) (start_back T (edge_of T d k) (one_part T d) p)
+    ∙ right_shell T (edge_of T d k) (one_part T d) p (sym (shell_is T (forward_of (edge_of T d k)) (start (edge_of T d k)) p.before.rings (forth_in T (edge_of T d k) (one_part T d) p) (start_in T (edge_of T d k) (one_part T d) p)) ∙ hole))))
+  where
+    p : IsParted T (edge_of T d k) (one_part T d)
+    p = parted T d k
+
+    by_left : (x y : Bool) → (x ≡ false → y ≡ true) → IsTrue (x || y)
+    by_left true y e = refl
+    by_left false y e = e refl
+
 of_one : (T : Drawing) (d : Division) (v : Point) → IsToDivide T d → IsOfFace T d v → is_on_left d.right_ring v ≡ not (is_on_left d.left_ring v)
 of_one T d v k of_face =
     subst (λ ring. is_on_left d.right_ring v ≡ not (is_on_left ring v)) (sym (left_is_ring T d k))
@@ -168,6 +183,7 @@ not_back x false e f = cc
 pub parts_lie_in_boxes : PartsLieInBoxes
 parts_lie_in_boxes = record {
   in_box = λ T h v box has c all odd. over_in_box T h v box has c all (sym (ring_over T h v has c) ∙ odd);
+  one_shell = one_shell;
   one_ring = of_one;
   out_of_left = λ T d v box k shell all out. ap (λ x. cond x d.left_part d.right_part) (off_left T d v box k shell all out);
   out_of_right = λ T d v box k of_face shell all out.
