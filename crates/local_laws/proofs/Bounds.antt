@@ -10,7 +10,7 @@ use Rattle.plane.specs.Segment.{Segment}
 use Rattle.plane.specs.Crossings.{over, back, crosses}
 use Rattle.plane.proofs.Ring.{multiplied, signed}
 use Rattle.plane.proofs.Signs.{order, mul_positive, mul_not_negative}
-use Rattle.parity_laws.specs.Steps.{Each, Even, odd, above}
+use Rattle.parity_laws.specs.Steps.{Each, Even, above}
 use Rattle.parity_laws.specs.Walks.{NoHigher}
 use Rattle.parity_laws.proofs.Sums.{odd_each, odd_none, each_map}
 use Rattle.plane.proofs.Tests.{lt_yes, lt_no, yes_lt, no_lt}

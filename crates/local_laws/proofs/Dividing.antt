@@ -1,13 +1,11 @@
 -- The division of a face by an edge that may come.
-use Rattle.std.proofs.Common.{◌≡◌, ◌≤◌, ℕ, sym, subst, arith, List, [], ◌∷◌, length, Some}
+use Rattle.std.proofs.Common.{◌≡◌, ◌≤◌, ℕ, subst, arith, List, [], ◌∷◌, length, Some}
 use Rattle.std.specs.List.{Contains}
 use Rattle.topo_base.specs.Point.{Point}
 use Rattle.topo_base.specs.declared.rows.NodeRow.{NodeRow}
 use Rattle.drawing.specs.AddEdge.{Division, coming, one_new}
 use Rattle.drawing.specs.Drawing.{Drawing, Edge}
-use Rattle.drawing.specs.HalfEdge.{HalfEdge, forward_of, backward_of, half_edges}
 use Rattle.drawing.specs.IsoEdits.{with_edge}
-use Rattle.drawing.specs.Ring.{ring_of, contains_half_edge}
 use Rattle.edit_changes.specs.Evidence.{EdgeMayCome, FaceMayBeDivided, left_ring, right_ring}
 use Rattle.face_laws.specs.Covered.{IsCovered, IsInFaceOf}
 use Rattle.subdivision_laws.specs.Subdivided.{IsSubdivided}

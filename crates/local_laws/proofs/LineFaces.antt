@@ -1,16 +1,15 @@
 -- The face in which an added line lies: it is one at both ends, and each point between them is in it.
-use Rattle.std.proofs.Common.{◌≡◌, ◌≢◌, ℕ, zero, suc, ◌≤◌, refl, sym, ◌∙◌, ap, subst, arith, ◌⊎◌, ⊎_elim, Bool, true, false, List, [], ◌∷◌, length, eqb}
+use Rattle.std.proofs.Common.{◌≡◌, ◌≢◌, ℕ, zero, suc, refl, sym, ◌∙◌, ap, subst, arith, ⊎_elim, Bool, true, false, List, [], ◌∷◌, eqb}
 use Rattle.std.specs.Prelude.{reverse, IsTrue}
 use Rattle.std.specs.List.{Contains}
 use Rattle.std.proofs.lemmas.Bool.{and_parts, both_ways, eqb-true, eq-eqb, ne_eqb}
-use Rattle.std.proofs.lemmas.List.Elements.{Contains-push_cases}
 use Rattle.topo_base.specs.Point.{Point, same_point}
 use Rattle.topo_base.specs.RationalPoint.{RationalPoint, rational, IsAt, SamePoint}
 use Rattle.topo_base.specs.declared.rows.NodeRow.{NodeRow}
 use Rattle.drawing.specs.AddEdge.{coming, face_at_start, face_at_end}
 use Rattle.plane.specs.Direction.{first_direction}
 use Rattle.drawing.specs.Blocked.{is_line_blocked}
-use Rattle.drawing.specs.Drawing.{Drawing, Edge, edge_id_of}
+use Rattle.drawing.specs.Drawing.{Drawing, edge_id_of}
 use Rattle.drawing.specs.Faced.{is_in}
 use Rattle.drawing.specs.HalfEdge.{HalfEdge, forward_of, backward_of, half_edges}
 use Rattle.drawing.specs.IsoEdits.{with_edge}

@@ -1,21 +1,20 @@
 -- The law of the lines of added edges, from that of lines with two vertices or more.
-use Rattle.std.proofs.Common.{◌≡◌, ◌≤◌, ℕ, refl, sym, ◌∙◌, ap, subst, arith, Bool, true, false, not, cond, List, [], ◌∷◌, length, IsTrue, Some, Ok, Err, ◌||◌, ◌==◌, eq-eqb}
-use Rattle.std.proofs.lemmas.Bool.{both_ways}
+use Rattle.std.proofs.Common.{◌≡◌, refl, ap, subst, arith, Bool, true, false, not, cond, List, [], ◌∷◌, IsTrue, Err, ◌||◌, ◌==◌, eq-eqb}
 use Rattle.topo_base.specs.Point.{Point}
 use Rattle.topo_base.specs.RationalPoint.{RationalPoint, IsAt}
 use Rattle.topo_base.specs.declared.rows.NodeRow.{NodeRow}
-use Rattle.topo_base.specs.declared.rule.Rule.{Rule}
 use Rattle.topo_base.specs.declared.rule.Rule.TheVariants.{LineEnds, LineNotSimple, LineBlocked}
 use Rattle.plane.specs.Line.{is_simple, first_vertex, last_vertex}
 use Rattle.plane.specs.RationalTests.{IsOnLine}
 use Rattle.drawing.specs.AddEdge.{face_at_start, face_at_end}
 use Rattle.drawing.specs.Blocked.{is_line_blocked, goes_between}
 use Rattle.drawing.specs.Apply.{Decision}
-use Rattle.drawing.specs.Decide.{edge_comes, edge_in_face}
+use Rattle.drawing.specs.Decide.{edge_in_face}
 use Rattle.drawing.specs.Drawing.{Drawing}
 use Rattle.drawing.specs.Faced.{is_in}
-use Rattle.edit_changes.specs.Evidence.{EdgeMayCome}
+use Rattle.drawing.specs.Replay.{replay}
 use Rattle.subdivision_laws.specs.Subdivided.{IsSubdivided}
+use Rattle.subdivision_laws.proofs.SubdivisionsStaying.{subdivisions_stay}
 use Rattle.local_laws.specs.Lines.{IsLineBetween, LinesLieInFaces}
 use Rattle.local_laws.proofs.LineFaces.{IsFree, one_face_by, in_face_by}
 
@@ -56,6 +55,7 @@ lines_lie_in_faces = record {
     ends_in = one S a b line h between free;
   };
   only_blocked = only;
+  each_history = λ max_id history a b line accepted between. only (replay history) a b line (subdivisions_stay.each_history max_id history accepted) between;
   decided = λ both S a b line h between.
       asked (goes_between a b line) (is_simple line) (is_line_blocked S line || not (face_at_end S b line == face_at_start S a line)) (is_line_blocked S line) (edge_in_face both S a b line (face_at_start S a line)) between.ends between.simple
       (only S a b line h between);

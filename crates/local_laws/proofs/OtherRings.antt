@@ -181,6 +181,13 @@ other_apart T e d h v parted o own of_left =
     let t = starts_at T (forward_of e) v parted.before.rings (forth_in T e d parted) of_left in
     off_left T e d h r.step parted o r.there r.mine t.step t.there t.mine (t.at ∙ sym r.at)
 
+pub other_apart_right : (T : Drawing) (e : Edge) (d : Division) (h : HalfEdge) (v : Point) → IsParted T e d → IsOther T e d h → IsVertex (ring_of (half_edges T) h) v →
+    IsVertex (ring_of (half_edges T) (backward_of e)) v → ⊥
+other_apart_right T e d h v parted o own of_right =
+    let r = starts_at T h v parted.before.rings o.there own in
+    let t = starts_at T (backward_of e) v parted.before.rings (back_in T e d parted) of_right in
+    off_right T e d h r.step parted o r.there r.mine t.step t.there t.mine (t.at ∙ sym r.at)
+
 -- all have above them what the ring has on its left
 ring_above : (T : Drawing) (h : HalfEdge) (v : Point) (label : Segment → Bool) → HasRings T → Contains (half_edges T) h → Ringwise (steps_of T) label →
     ((r : Segment) → In r (steps_of T) → own_label T h r ≡ true → (t : Segment) → In t (steps_of T) → label t ≡ true → t.a ≢ r.a) → IsVertex (ring_of (half_edges T) h) v →

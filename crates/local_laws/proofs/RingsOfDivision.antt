@@ -1,5 +1,5 @@
 -- The laws of a divided face, from those of the rings on the two sides of its edge.
-use Rattle.std.proofs.Common.{◌≡◌, refl, sym, ◌∙◌, ap, subst, ⊎_elim, Bool, true, false, not, cond, List, Some, IsTrue, ◌||◌}
+use Rattle.std.proofs.Common.{◌≡◌, refl, sym, ◌∙◌, ap, subst, ⊎_elim, Bool, true, false, not, cond, Some, IsTrue, ◌||◌}
 use Rattle.std.specs.List.{Contains}
 use Rattle.std.proofs.lemmas.Bool.{false_from_ne_true}
 use Rattle.topo_base.specs.Point.{Point}
@@ -24,7 +24,7 @@ use Rattle.subdivision_laws.proofs.DividedFaces.{IsParted, left_label, right_lab
 use Rattle.local_laws.specs.Boxes.{IsInBox, HasAll, IsOfFace, PartsLieInBoxes}
 use Rattle.local_laws.specs.Parts.{IsToDivide, IsOfOther, IsVertex, DivisionIsLocal}
 use Rattle.local_laws.proofs.Dividing.{edge_of, one_part, parted, node_placed}
-use Rattle.local_laws.proofs.OtherRings.{IsOther, other_apart, other_above, right_above, right_shell, start_is_vertex, other_of_one, point_of_face, over_in_box}
+use Rattle.local_laws.proofs.OtherRings.{IsOther, other_apart, other_apart_right, other_above, right_above, right_shell, start_is_vertex, other_of_one, point_of_face, over_in_box}
 
 -- ---- a drawing whose edge e divides a face
 -- the test at a vertex of another ring
@@ -131,7 +131,13 @@ division_is_local = record {
     on_left = sym (ap (λ (x : Division). x.left_ring) h.2);
     on_right = sym (ap (λ (x : Division). x.right_ring) h.2);
   };
-  apart = λ T d h v k o own on. other_apart T (edge_of T d k) (one_part T d) h v (parted T d k) (other_is T d h k o) own (subst (λ ring. IsVertex ring v) (left_is_ring T d k) on);
+  apart = λ T d h v k o own on.
+      let p = parted T d k in
+      let other = other_is T d h k o in
+      ⊎_elim
+      (λ (m : IsVertex d.left_ring v). other_apart T (edge_of T d k) (one_part T d) h v p other own (subst (λ ring. IsVertex ring v) (left_is_ring T d k) m))
+      (λ (m : IsVertex d.right_ring v). other_apart_right T (edge_of T d k) (one_part T d) h v p other own (subst (λ ring. IsVertex ring v) (right_is_ring T d k) m))
+      on;
   one_side = same_side;
   one_part = part_of_other;
   right_is_right = right_off_left;

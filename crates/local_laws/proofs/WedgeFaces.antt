@@ -1,5 +1,5 @@
 -- What the parities say left of a line at the node that it leaves: the face of the wedge in which it lies.
-use Rattle.std.proofs.Common.{◌≡◌, ◌≢◌, ℕ, sym, ◌∙◌, ap, subst, ◌⊎◌, ⊎_elim, true, false, eqb, Some, filter, unwrap_or}
+use Rattle.std.proofs.Common.{◌≡◌, ◌≢◌, ℕ, sym, ◌∙◌, ap, subst, ⊎_elim, true, false, eqb, Some, filter, unwrap_or}
 use Rattle.std.specs.List.{Contains}
 use Rattle.std.proofs.lemmas.Bool.{both_ways, false_from_ne_true}
 use Rattle.topo_base.specs.Point.{Point}
@@ -10,7 +10,7 @@ use Rattle.drawing.specs.Drawing.{Drawing, is_isolated}
 use Rattle.plane.specs.Parity.{xor}
 use Rattle.drawing.specs.Faces.{wedge_face, face_after}
 use Rattle.drawing.specs.HalfEdge.{HalfEdge, forward_of, backward_of, half_edges, twin, leaves}
-use Rattle.plane.specs.Line.{segments_of, first_vertex, no_point}
+use Rattle.plane.specs.Line.{segments_of, first_vertex}
 use Rattle.plane.specs.RationalTests.{IsOn}
 use Rattle.plane.specs.Segment.{Segment}
 use Rattle.drawing.specs.Star.{leaving, last_clockwise}
@@ -37,14 +37,14 @@ use Rattle.parity_laws.proofs.Ringwise.{in_each, side_next}
 use Rattle.parity_laws.proofs.Star.{those_in, those_within}
 use Rattle.parity_laws.proofs.Sums.{xor_none}
 use Rattle.parity_laws.proofs.Walking.{not_turned}
-use Rattle.face_laws.specs.Walked.{steps_along, steps_of}
+use Rattle.face_laws.specs.Walked.{steps_of}
 use Rattle.face_laws.specs.Covered.{face_of, IsCovered}
 use Rattle.face_laws.proofs.Covering.{known}
 use Rattle.face_laws.proofs.FaceOnLeft.{left_is}
 use Rattle.face_laws.proofs.InnerTurns.{next_by_starts}
 use Rattle.face_laws.proofs.InsideNearer.{inside_nearer}
-use Rattle.face_laws.proofs.Lists.{in_contains, in_place}
-use Rattle.face_laws.proofs.NextTurns.{IsFirstOf, leaves_too}
+use Rattle.face_laws.proofs.Lists.{in_contains}
+use Rattle.face_laws.proofs.NextTurns.{leaves_too}
 use Rattle.face_laws.proofs.PlainSteps.{half_with, step_there, step_back, steps_plain}
 use Rattle.face_laws.proofs.RingLabels.{face_ringwise, first_step, first_there}
 use Rattle.face_laws.proofs.Vertices.{first_way}

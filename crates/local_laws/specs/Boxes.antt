@@ -10,7 +10,7 @@ use Rattle.drawing.specs.Drawing.{Drawing}
 use Rattle.drawing.specs.HalfEdge.{HalfEdge, half_edges}
 use Rattle.drawing.specs.Ring.{ring_of, ring_segments, is_shell}
 use Rattle.face_rings.specs.FaceBorder.{HasRings}
-use Rattle.local_laws.specs.Parts.{IsToDivide, IsOfOther, IsVertex}
+use Rattle.local_laws.specs.Parts.{IsToDivide, IsOfOther, IsVertex, IsOnRing}
 
 -- the point is in the box, its border included
 pub record IsInBox (v : Point) (box : Box4) : Type 0 where
@@ -25,8 +25,7 @@ HasAll box ring = (v : Point) → IsVertex ring v → IsInBox v box
 
 -- v is a vertex of another ring of the face, or the point of a node that lies in it
 abbrev pub IsOfFace : Drawing → Division → Point → Type 0
-IsOfFace T d v =
-    ((h : HalfEdge) × (IsOfOther T d h × IsVertex (ring_of (half_edges T) h) v)) ⊎ ((n : NodeRow) × (Contains T.nodes n × (n.containing_face ≡ Some d.face) × (n.geom ≡ v)))
+IsOfFace T d v = ((h : HalfEdge) × (IsOfOther T d h × IsOnRing T h v)) ⊎ ((n : NodeRow) × (Contains T.nodes n × (n.containing_face ≡ Some d.face) × (n.geom ≡ v)))
 
 pub record PartsLieInBoxes : Type 0 where
   -- a point over which a ring is odd is in each box that has the ring's vertices

@@ -3,15 +3,18 @@ use Rattle.std.specs.Prelude.{◌≡◌, ◌≤◌, ℕ, ◌==◌, ◌||◌, Boo
 use Rattle.std.specs.List.{Contains}
 use Rattle.topo_base.specs.Point.{Point}
 use Rattle.topo_base.specs.RationalPoint.{RationalPoint, IsAt}
+use Rattle.topo_base.specs.declared.edit.Entry.{Entry}
 use Rattle.topo_base.specs.declared.rows.NodeRow.{NodeRow}
 use Rattle.topo_base.specs.declared.rule.Rule.TheVariants.{LineBlocked}
 use Rattle.plane.specs.Line.{is_simple, first_vertex, last_vertex}
 use Rattle.plane.specs.RationalTests.{IsOnLine}
+use Rattle.drawing.specs.Accepted.{is_accepted}
 use Rattle.drawing.specs.AddEdge.{face_at_start, face_at_end}
 use Rattle.drawing.specs.Blocked.{is_line_blocked, goes_between}
 use Rattle.drawing.specs.Decide.{edge_comes, edge_in_face}
 use Rattle.drawing.specs.Drawing.{Drawing}
 use Rattle.drawing.specs.Faced.{is_in}
+use Rattle.drawing.specs.Replay.{replay}
 use Rattle.edit_changes.specs.Evidence.{EdgeMayCome}
 use Rattle.subdivision_laws.specs.Subdivided.{IsSubdivided}
 
@@ -31,6 +34,9 @@ pub record LinesLieInFaces : Type 0 where
   -- the rule LineBlocked refuses no line by its faces alone
   pub only_blocked : (S : Drawing) (a b : NodeRow) (line : List Point) → IsSubdivided S → IsLineBetween S a b line
       → (is_line_blocked S line || not (face_at_end S b line == face_at_start S a line)) ≡ is_line_blocked S line
+  -- so it doesn't in the drawing of any accepted history
+  pub each_history : (max_id : ℕ) (history : List Entry) (a b : NodeRow) (line : List Point) → IsTrue (is_accepted max_id history) → IsLineBetween (replay history) a b line
+      → (is_line_blocked (replay history) line || not (face_at_end (replay history) b line == face_at_start (replay history) a line)) ≡ is_line_blocked (replay history) line
   -- and Step decides without them
   pub decided : (both : Bool) (S : Drawing) (a b : NodeRow) (line : List Point) → IsSubdivided S → IsLineBetween S a b line
       → edge_comes both S (Some a) (Some b) line ≡ (if is_line_blocked S line then Err LineBlocked else edge_in_face both S a b line (face_at_start S a line))

@@ -1,5 +1,5 @@
 -- A face that an added edge divides: what one vertex of a ring tells of the ring.
-use Rattle.std.specs.Prelude.{◌≡◌, ◌≤◌, false, List, length}
+use Rattle.std.specs.Prelude.{◌≡◌, ◌≤◌, ◌⊎◌, false, List, length}
 use Rattle.std.specs.List.{Contains}
 use Rattle.topo_base.specs.Point.{Point}
 use Rattle.topo_base.specs.declared.rows.NodeRow.{NodeRow}
@@ -36,16 +36,19 @@ pub record IsOfOther (T : Drawing) (d : Division) (h : HalfEdge) : Type 0 where
 abbrev pub IsVertex : List HalfEdge → Point → Type 0
 IsVertex ring v = (h : HalfEdge) × (Contains ring h × Contains h.points v)
 
+-- and of the ring of h
+abbrev pub IsOnRing : Drawing → HalfEdge → Point → Type 0
+IsOnRing T h v = IsVertex (ring_of (half_edges T) h) v
+
 pub record DivisionIsLocal : Type 0 where
   -- each division that Step decides is one of these
   pub one_face_new : (S : Drawing) (a b : NodeRow) (line : List Point) (d : Division) → IsSubdivided S → 2 ≤ length line → IsDecided S (FaceIsDivided a b line d) → IsToDivide (with_edge S a b line d.face) d
   pub both_faces_new : (S : Drawing) (a b : NodeRow) (line : List Point) (d : Division) → IsSubdivided S → 2 ≤ length line → IsDecided S (FaceIsDividedAnew a b line d) → IsToDivide (with_edge S a b line d.face) d
-  -- no vertex of another ring of the face is one of the left ring
-  pub apart : (T : Drawing) (d : Division) (h : HalfEdge) (v : Point) → IsToDivide T d → IsOfOther T d h → IsVertex (ring_of (half_edges T) h) v → IsVertex d.left_ring v → ⊥
+  -- no vertex of another ring of the face is one of the edge's two rings
+  pub apart : (T : Drawing) (d : Division) (h : HalfEdge) (v : Point) → IsToDivide T d → IsOfOther T d h → IsOnRing T h v → IsVertex d.left_ring v ⊎ IsVertex d.right_ring v → ⊥
   -- its vertices are all on the left of the left ring, or none is
-  pub one_side : (T : Drawing) (d : Division) (h : HalfEdge) (v w : Point) → IsToDivide T d → IsOfOther T d h → IsVertex (ring_of (half_edges T) h) v → IsVertex (ring_of (half_edges T) h) w
-      → is_on_left d.left_ring v ≡ is_on_left d.left_ring w
+  pub one_side : (T : Drawing) (d : Division) (h : HalfEdge) (v w : Point) → IsToDivide T d → IsOfOther T d h → IsOnRing T h v → IsOnRing T h w → is_on_left d.left_ring v ≡ is_on_left d.left_ring w
   -- so the part that has any one of them is the part beside the ring
-  pub one_part : (T : Drawing) (d : Division) (h : HalfEdge) (v : Point) → IsToDivide T d → IsOfOther T d h → IsVertex (ring_of (half_edges T) h) v → part_beside d (half_edges T) h ≡ part_at d v
+  pub one_part : (T : Drawing) (d : Division) (h : HalfEdge) (v : Point) → IsToDivide T d → IsOfOther T d h → IsOnRing T h v → part_beside d (half_edges T) h ≡ part_at d v
   -- a vertex of the right ring that is none of the left ring is not on the left
   pub right_is_right : (T : Drawing) (d : Division) (v : Point) → IsToDivide T d → IsVertex d.right_ring v → (IsVertex d.left_ring v → ⊥) → is_on_left d.left_ring v ≡ false

@@ -11,16 +11,16 @@ pub fn line_law()
     ensures { LinesLieInFaces }
 {}
 
-/// Where an edge divides a face, no vertex of another ring of that face is one of the edge's left ring, and they are
-/// all on its left or none is: the part that has any one of them is the part beside the ring. A vertex of the edge's
-/// right ring that is none of its left ring is not on its left.
+/// Where an edge divides a face, no vertex of another ring of that face is one of the edge's two rings, and they are
+/// all on the left of its left ring or none is: the part that has any one of them is the part beside the ring. A
+/// vertex of the right ring that is none of the left ring is not on the left.
 pub fn division_law()
     ensures { DivisionIsLocal }
 {}
 
-/// A point over which a ring is odd is in each box that has the ring's vertices. Each vertex of another ring of the
-/// divided face, and each node in that face, is on the left of exactly one of the edge's two rings. So whatever of
-/// the face is out of the box of one of the two, where that is a shell, is in the other part.
+/// A point over which a ring is odd is in each box that has the ring's vertices. Of the two rings of an edge that
+/// divides a face one is a shell, or both are; each vertex of another ring of that face, and each node in it, is on
+/// the left of exactly one of the two. So what is out of the box of one that is a shell is in the other part.
 pub fn box_law()
     ensures { PartsLieInBoxes }
 {}
