@@ -17,7 +17,7 @@ use Rattle.face_rings.specs.FaceBorder.{HasRings}
 use Rattle.parity_laws.specs.Rings.{those}
 use Rattle.parity_laws.specs.Steps.{above, left}
 use Rattle.face_laws.specs.Walked.{steps_of}
-use Rattle.face_laws.proofs.RingLabels.{first_step, first_there, ring_steps, in_own_ring}
+use Rattle.face_laws.proofs.RingLabels.{first_step, first_there, has_half, ring_steps, in_own_ring}
 use Rattle.face_laws.proofs.RingSums.{ring_over}
 use Rattle.face_laws.proofs.ShellTests.{shell_is}
 use Rattle.subdivision_laws.proofs.DividedFaces.{IsParted, left_label, right_label, start, good_of, forth_in, back_in, start_on, start_in, start_back, least_half}
@@ -105,6 +105,24 @@ right_off_left T d v k own away =
     (off_left_side (is_odd_over v (ring_segments (ring_of (half_edges T) (forward_of (edge_of T d k))))) (is_shell (ring_of (half_edges T) (forward_of (edge_of T d k))))
     (right_over T (edge_of T d k) (one_part T d) v (parted T d k) (subst (λ ring. IsVertex ring v) (right_is_ring T d k) own) (λ on. away (subst (λ ring. IsVertex ring v) (sym (left_is_ring T d k)) on))))
 
+-- h is of the right ring, or of another one
+part_of_own : (T : Drawing) (d : Division) (h : HalfEdge) (v : Point) → IsToDivide T d → Contains (half_edges T) h → h.on_left ≡ d.face → contains_half_edge d.left_ring h ≡ false → Contains h.points v → (IsVertex d.left_ring v → ⊥)
+    → part_beside d (half_edges T) h ≡ part_at d v
+part_of_own T d h v k c face off own away = by_right (contains_half_edge d.right_ring h) refl
+  where
+    on_right : contains_half_edge d.right_ring h ≡ true → Contains d.right_ring h
+    on_right m =
+        let p = parted T d k in
+        subst (λ ring. Contains ring h) (sym (right_is_ring T d k))
+        (has_half T (backward_of (edge_of T d k)) h p.before.rings (back_in T (edge_of T d k) (one_part T d) p) c (ap (λ ring. contains_half_edge ring h) (sym (right_is_ring T d k)) ∙ m))
+
+    by_rings : (x y z : Bool) → x ≡ false → y ≡ true → z ≡ false → cond x d.left_part (cond y d.right_part (part_at d (least_vertex (ring_of (half_edges T) h)))) ≡ cond z d.left_part d.right_part
+    by_rings x y z e f g = rw (e, f, g) refl
+
+    by_right : (y : Bool) → contains_half_edge d.right_ring h ≡ y → part_beside d (half_edges T) h ≡ part_at d v
+    by_right true m = by_rings (contains_half_edge d.left_ring h) (contains_half_edge d.right_ring h) (is_on_left d.left_ring v) off m (right_off_left T d v k (h, (on_right m, own)) away)
+    by_right false m = part_of_other T d h v k (record { there = c; face = face; not_left = off; not_right = m }) (h, (in_own_ring T h, own))
+
 pub division_is_local : DivisionIsLocal
 division_is_local = record {
   one_face_new = λ S a b line d before long h. record {
@@ -141,6 +159,7 @@ division_is_local = record {
   one_side = same_side;
   one_part = part_of_other;
   right_is_right = right_off_left;
+  own_vertex = part_of_own;
 }
 
 -- ---- boxes

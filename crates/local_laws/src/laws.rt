@@ -13,7 +13,8 @@ pub fn line_law()
 
 /// Where an edge divides a face, no vertex of another ring of that face is one of the edge's two rings, and they are
 /// all on the left of its left ring or none is: the part that has any one of them is the part beside the ring. A
-/// vertex of the right ring that is none of the left ring is not on the left.
+/// vertex of the right ring that is none of the left ring is not on the left. So a half-edge of the face that is none
+/// of the left ring is told by a vertex of its own that is none of the left ring.
 pub fn division_law()
     ensures { DivisionIsLocal }
 {}
