@@ -236,7 +236,7 @@ right_left T e d r parted i mine = by_place (place (steps_of T) (face_of T) (Par
     by_place (in_b h k g) = k
     by_place (elsewhere n g) = absurd (n face)
 
--- a vertex of it that is none of the left ring has that parity above it
+-- a vertex of it that isn't one of the left ring's has that parity above it
 pub right_above : (T : Drawing) (e : Edge) (d : Division) (v : Point) → IsParted T e d → IsVertex (ring_of (half_edges T) (backward_of e)) v → (IsVertex (ring_of (half_edges T) (forward_of e)) v → ⊥) →
     above (left_steps T e) v ≡ not (left (left_steps T e) (start e))
 right_above T e d v parted own away = of_start (starts_at T (backward_of e) v parted.before.rings (back_in T e d parted) own)

@@ -42,7 +42,7 @@ least_is_vertex T e d h p o = of_half (least_half (ring_of (half_edges T) h) h (
         let good = good_of T e d p in
         (m, (w, subst (Contains m.points) (sym (at ∙ first_begins m.points (first_step m) (first_there T m good there))) (start_is_vertex (first_step m) m.points (start_on T m good there))))
 
--- a vertex of the right ring that is none of the left ring
+-- a vertex of the right ring that isn't one of the left ring's
 right_over : (T : Drawing) (e : Edge) (d : Division) (v : Point) → IsParted T e d → IsVertex (ring_of (half_edges T) (backward_of e)) v → (IsVertex (ring_of (half_edges T) (forward_of e)) v → ⊥) →
     is_odd_over v (ring_segments (ring_of (half_edges T) (forward_of e))) ≡ not (is_shell (ring_of (half_edges T) (forward_of e)))
 right_over T e d v p own away =

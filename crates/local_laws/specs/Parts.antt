@@ -50,8 +50,8 @@ pub record DivisionIsLocal : Type 0 where
   pub one_side : (T : Drawing) (d : Division) (h : HalfEdge) (v w : Point) → IsToDivide T d → IsOfOther T d h → IsOnRing T h v → IsOnRing T h w → is_on_left d.left_ring v ≡ is_on_left d.left_ring w
   -- so the part that has any one of them is the part beside the ring
   pub one_part : (T : Drawing) (d : Division) (h : HalfEdge) (v : Point) → IsToDivide T d → IsOfOther T d h → IsOnRing T h v → part_beside d (half_edges T) h ≡ part_at d v
-  -- a vertex of the right ring that is none of the left ring is not on the left
+  -- a vertex of the right ring that isn't one of the left ring's is not on the left
   pub right_is_right : (T : Drawing) (d : Division) (v : Point) → IsToDivide T d → IsVertex d.right_ring v → (IsVertex d.left_ring v → ⊥) → is_on_left d.left_ring v ≡ false
-  -- so a half-edge of the face that is none of the left ring needs no walk: a vertex of its own that is none of the left ring tells the part beside it
+  -- so a half-edge of the face that isn't of the left ring needs no walk round its own: a vertex of it that isn't one of the left ring's tells the part beside it
   pub own_vertex : (T : Drawing) (d : Division) (h : HalfEdge) (v : Point) → IsToDivide T d → Contains (half_edges T) h → h.on_left ≡ d.face → contains_half_edge d.left_ring h ≡ false
       → Contains h.points v → (IsVertex d.left_ring v → ⊥) → part_beside d (half_edges T) h ≡ part_at d v

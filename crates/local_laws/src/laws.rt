@@ -13,8 +13,8 @@ pub fn line_law()
 
 /// Where an edge divides a face, no vertex of another ring of that face is one of the edge's two rings, and they are
 /// all on the left of its left ring or none is: the part that has any one of them is the part beside the ring. A
-/// vertex of the right ring that is none of the left ring is not on the left. So a half-edge of the face that is none
-/// of the left ring is told by a vertex of its own that is none of the left ring.
+/// vertex of the right ring that isn't one of the left ring's is not on the left. So for a half-edge of the face that
+/// isn't of the left ring, a vertex of it that isn't one of the left ring's tells the part beside it.
 pub fn division_law()
     ensures { DivisionIsLocal }
 {}
