@@ -1,33 +1,33 @@
 -- The face in which an added line lies: it is one at both ends, and each point between them is in it.
-use Rattle.std.proofs.Common.{◌≡◌, ◌≢◌, ℕ, zero, suc, ◌≤◌, refl, sym, ◌∙◌, ap, subst, arith, ⊎_elim, Bool, true, false, List, [], ◌∷◌, length, eqb}
+use Rattle.std.proofs.Common.{◌≡◌, ◌≢◌, ℕ, zero, suc, refl, sym, ◌∙◌, ap, subst, arith, ⊎_elim, Bool, true, false, List, [], ◌∷◌, eqb}
 use Rattle.std.specs.Prelude.{reverse, IsTrue}
 use Rattle.std.specs.List.{Contains}
 use Rattle.std.proofs.lemmas.Bool.{and_parts, both_ways, eqb-true, eq-eqb, ne_eqb}
-use Rattle.std.proofs.lemmas.List.Elements.{Contains-push_cases}
 use Rattle.topo_base.specs.Point.{Point, same_point}
 use Rattle.topo_base.specs.RationalPoint.{RationalPoint, rational, IsAt, SamePoint}
 use Rattle.topo_base.specs.declared.rows.NodeRow.{NodeRow}
 use Rattle.drawing.specs.AddEdge.{coming, face_at_start, face_at_end}
 use Rattle.plane.specs.Direction.{first_direction}
-use Rattle.drawing.specs.Drawing.{Drawing, Edge, node_id_of, edge_id_of}
+use Rattle.drawing.specs.Blocked.{is_line_blocked}
+use Rattle.drawing.specs.Drawing.{Drawing, edge_id_of}
 use Rattle.drawing.specs.Faced.{is_in}
 use Rattle.drawing.specs.HalfEdge.{HalfEdge, forward_of, backward_of, half_edges}
 use Rattle.drawing.specs.IsoEdits.{with_edge}
 use Rattle.plane.specs.Line.{segments_of, first_vertex, last_vertex}
-use Rattle.drawing.specs.PlainInOrder.{IsPlainInOrder}
 use Rattle.plane.specs.RationalTests.{IsOn, IsOnLine}
 use Rattle.plane.specs.Segment.{Segment}
 use Rattle.plane.specs.Crossings.{back}
 use Rattle.plane.proofs.LineTurns.{first-reverse}
-use Rattle.drawing.proofs.Members.{ids_differ, ids_within}
-use Rattle.drawing.proofs.PlainParts.{parts_of}
-use Rattle.edit_changes.proofs.PlainStaying.{HasPlain, edge_more}
+use Rattle.drawing.proofs.Members.{ids_within}
+use Rattle.edit_changes.proofs.LongLines.{push_long}
+use Rattle.edit_changes.proofs.PlainStaying.{HasPlain, has_plain, edge_more}
 use Rattle.plane.proofs.Signs.{times_one}
 use Rattle.plane.proofs.SimpleTests.{first_begins}
 use Rattle.face_rings.proofs.FaceBorders.{has_plain_lines}
 use Rattle.face_rings.proofs.HalfLines.{HasPlainLines}
 use Rattle.face_rings.proofs.HalvesApart.{half_of}
 use Rattle.ring_laws.proofs.Known.{wedge_listed}
+use Rattle.ring_laws.proofs.RingedDrawings.{plain_lines}
 use Rattle.parity_laws.specs.Coming.{walked_back, both_ways_of, with_line, LineComes}
 use Rattle.parity_laws.specs.Rings.{In, Within, those, of_face}
 use Rattle.parity_laws.specs.Steps.{Even, above_at, left}
@@ -42,32 +42,27 @@ use Rattle.face_laws.specs.Covered.{face_of, IsCovered}
 use Rattle.face_laws.proofs.Covering.{known, faces_given}
 use Rattle.face_laws.proofs.FaceParity.{in_face_at_is}
 use Rattle.face_laws.proofs.InFace.{in_by}
-use Rattle.face_laws.proofs.LineSteps.{segments-reverse}
 use Rattle.face_laws.proofs.Lists.{contains_in}
-use Rattle.face_laws.proofs.RingLabels.{face_ringwise, first_step}
+use Rattle.face_laws.proofs.LineSteps.{segments-reverse}
+use Rattle.face_laws.proofs.RingLabels.{face_ringwise, first_step, first_there}
 use Rattle.subdivision_laws.proofs.AddedSteps.{first_of, rest_of, last_of, added, plain_line_comes, drawn_of, forward_in, backward_in, half_stays}
-use Rattle.local_laws.specs.Local.{IsAllowed}
+use Rattle.subdivision_laws.proofs.DividedFaces.{start_on}
+use Rattle.local_laws.specs.Lines.{IsLineBetween}
 use Rattle.local_laws.proofs.Inside.{inside_left, above_same}
-use Rattle.local_laws.proofs.WedgeFaces.{first_is, first_on, Comes, LeavesInto, wedge_parity}
+use Rattle.local_laws.proofs.WedgeFaces.{Comes, LeavesInto, wedge_parity}
 
 -- ---- the drawing with the line
--- as has_plain, plain_lines and long_more in ring_laws/proofs/RingsStaying
-has_plain : (S : Drawing) → IsPlainInOrder S → HasPlain S
-has_plain S h = record { parts = parts_of S h.plain; ids = record { test = h.node_ids }; edge_ids = record { test = h.edge_ids } }
+-- a line between two nodes that isn't blocked
+pub record IsFree (S : Drawing) (a b : NodeRow) (line : List Point) : Type 0 where
+  pub between : IsLineBetween S a b line
+  pub free : is_line_blocked S line ≡ false
 
-pub plain_with : (S : Drawing) (a b : NodeRow) (line : List Point) (f : ℕ) → IsCovered S → IsAllowed S a b line → HasPlain (with_edge S a b line f)
-plain_with S a b line f c h = edge_more S a b line f (has_plain S c.ringed.rings.plain) h.from h.to h.between h.simple h.free
+pub plain_with : (S : Drawing) (a b : NodeRow) (line : List Point) (f : ℕ) → IsCovered S → IsFree S a b line → HasPlain (with_edge S a b line f)
+plain_with S a b line f c h = edge_more S a b line f (has_plain S c.ringed.rings.plain) h.between.start_there h.between.end_there h.between.ends h.between.simple h.free
 
-pub lines_with : (S : Drawing) (a b : NodeRow) (line : List Point) (f : ℕ) → IsCovered S → IsAllowed S a b line → HasPlainLines (with_edge S a b line f)
+pub lines_with : (S : Drawing) (a b : NodeRow) (line : List Point) (f : ℕ) → IsCovered S → IsFree S a b line → HasPlainLines (with_edge S a b line f)
 lines_with S a b line f c h =
-    let T = with_edge S a b line f in
-    let plain = plain_with S a b line f c h in
-    record {
-      plain = plain.parts;
-      node_ids = ids_differ node_id_of 0 T.next_ids.node T.nodes plain.ids;
-      edge_ids = plain.edge_ids;
-      long = λ e i. ⊎_elim (λ (d : Contains S.edges e). (has_plain_lines S c.ringed.rings).long e d) (λ (p : coming S a b line f ≡ e). subst (λ (x : Edge). 2 ≤ length x.geom) p h.long) (Contains-push_cases S.edges (coming S a b line f) e i);
-    }
+    plain_lines (with_edge S a b line f) (plain_with S a b line f c h) (push_long S.edges (coming S a b line f) (record { each = (has_plain_lines S c.ringed.rings).long }) h.between.long).each
 
 fresh : (S : Drawing) (x : HalfEdge) → HasPlainLines S → x.edge_id ≡ S.next_ids.edge → Contains (half_edges S) x → ⊥
 fresh S x good id c =
@@ -76,7 +71,7 @@ fresh S x good id c =
     let same : r.edge.edge_id ≡ x.edge_id = ⊎_elim (λ (p : forward_of r.edge ≡ x). ap (λ (y : HalfEdge). y.edge_id) p) (λ (p : backward_of r.edge ≡ x). ap (λ (y : HalfEdge). y.edge_id) p) r.way in
     omega arith
 
-forth_comes : (S : Drawing) (a b : NodeRow) (line : List Point) (f : ℕ) → IsCovered S → IsAllowed S a b line → Comes S (with_edge S a b line f) (forward_of (coming S a b line f))
+forth_comes : (S : Drawing) (a b : NodeRow) (line : List Point) (f : ℕ) → IsCovered S → IsFree S a b line → Comes S (with_edge S a b line f) (forward_of (coming S a b line f))
 forth_comes S a b line f c h = record {
   lines = has_plain_lines S c.ringed.rings;
   more = lines_with S a b line f c h;
@@ -85,7 +80,7 @@ forth_comes S a b line f c h = record {
   fresh = fresh S (forward_of (coming S a b line f)) (has_plain_lines S c.ringed.rings) refl;
 }
 
-back_comes : (S : Drawing) (a b : NodeRow) (line : List Point) (f : ℕ) → IsCovered S → IsAllowed S a b line → Comes S (with_edge S a b line f) (backward_of (coming S a b line f))
+back_comes : (S : Drawing) (a b : NodeRow) (line : List Point) (f : ℕ) → IsCovered S → IsFree S a b line → Comes S (with_edge S a b line f) (backward_of (coming S a b line f))
 back_comes S a b line f c h = record {
   lines = has_plain_lines S c.ringed.rings;
   more = lines_with S a b line f c h;
@@ -94,7 +89,7 @@ back_comes S a b line f c h = record {
   fresh = fresh S (backward_of (coming S a b line f)) (has_plain_lines S c.ringed.rings) refl;
 }
 
-leaves_start : (S : Drawing) (a b : NodeRow) (line : List Point) (f : ℕ) → IsCovered S → IsAllowed S a b line →
+leaves_start : (S : Drawing) (a b : NodeRow) (line : List Point) (f : ℕ) → IsCovered S → IsFree S a b line →
     LeavesInto S (with_edge S a b line f) a (forward_of (coming S a b line f)) (face_at_start S a line)
 leaves_start S a b line f c h =
     let x = forward_of (coming S a b line f) in
@@ -102,14 +97,14 @@ leaves_start S a b line f c h =
     record {
       before = c;
       comes = comes;
-      node = h.from;
+      node = h.between.start_there;
       from = refl;
-      begins = sym (first_begins line (first_step x) (first_is (with_edge S a b line f) x comes.more comes.there))
-          ∙ same_is (first_vertex line) a.geom (and_parts (same_point (first_vertex line) a.geom) (same_point (last_vertex line) b.geom) h.between).0;
+      begins = sym (first_begins line (first_step x) (first_there (with_edge S a b line f) x comes.more comes.there))
+          ∙ same_is (first_vertex line) a.geom (and_parts (same_point (first_vertex line) a.geom) (same_point (last_vertex line) b.geom) h.between.ends).0;
       face = refl;
     }
 
-leaves_end : (S : Drawing) (a b : NodeRow) (line : List Point) (f : ℕ) → IsCovered S → IsAllowed S a b line →
+leaves_end : (S : Drawing) (a b : NodeRow) (line : List Point) (f : ℕ) → IsCovered S → IsFree S a b line →
     LeavesInto S (with_edge S a b line f) b (backward_of (coming S a b line f)) (face_at_end S b line)
 leaves_end S a b line f c h =
     let x = backward_of (coming S a b line f) in
@@ -117,10 +112,10 @@ leaves_end S a b line f c h =
     record {
       before = c;
       comes = comes;
-      node = h.to;
+      node = h.between.end_there;
       from = refl;
-      begins = sym (first_begins (reverse line) (first_step x) (first_is (with_edge S a b line f) x comes.more comes.there)) ∙ first-reverse line
-          ∙ same_is (last_vertex line) b.geom (and_parts (same_point (first_vertex line) a.geom) (same_point (last_vertex line) b.geom) h.between).1;
+      begins = sym (first_begins (reverse line) (first_step x) (first_there (with_edge S a b line f) x comes.more comes.there)) ∙ first-reverse line
+          ∙ same_is (last_vertex line) b.geom (and_parts (same_point (first_vertex line) a.geom) (same_point (last_vertex line) b.geom) h.between.ends).1;
       face = refl;
     }
 
@@ -140,19 +135,19 @@ border_even S g c = let drawn = drawn_of S (has_plain_lines S c.ringed.rings) in
 border_in : (S : Drawing) (g : ℕ) → Within (border S g) (steps_of S)
 border_in S g = those_within (of_face (face_of S) g) (steps_of S)
 
-comes_by : (S : Drawing) (a b : NodeRow) (p q : Point) (vs : List Point) → IsCovered S → IsAllowed S a b (p ∷ q ∷ vs) → LineComes (steps_of S) (first_of p q) (rest_of q vs) (last_of p q vs)
+comes_by : (S : Drawing) (a b : NodeRow) (p q : Point) (vs : List Point) → IsCovered S → IsFree S a b (p ∷ q ∷ vs) → LineComes (steps_of S) (first_of p q) (rest_of q vs) (last_of p q vs)
 comes_by S a b p q vs c h = plain_line_comes S a b p q vs 0 (has_plain_lines S c.ringed.rings) (lines_with S a b (p ∷ q ∷ vs) 0 c h)
 
 -- on both sides of each step of the line the parities say the face at its start
-pub line_parity : (S : Drawing) (a b : NodeRow) (p q : Point) (vs : List Point) → IsCovered S → IsAllowed S a b (p ∷ q ∷ vs) → (g : ℕ) → g ≢ 0 → (t : Segment) → In t (both_ways_of (segments_of (p ∷ q ∷ vs))) →
+pub line_parity : (S : Drawing) (a b : NodeRow) (p q : Point) (vs : List Point) → IsCovered S → IsFree S a b (p ∷ q ∷ vs) → (g : ℕ) → g ≢ 0 → (t : Segment) → In t (both_ways_of (segments_of (p ∷ q ∷ vs))) →
     left (border S g) t ≡ eqb (face_at_start S a (p ∷ q ∷ vs)) g
 line_parity S a b p q vs c h g n t i =
     left_on_line (steps_of S) (first_of p q) (rest_of q vs) (last_of p q vs) (border S g) (comes_by S a b p q vs c h) (border_even S g c) (border_in S g) t i
     ∙ wedge_parity S (added S a b p q vs 0) a (forward_of (coming S a b (p ∷ q ∷ vs) 0)) (face_at_start S a (p ∷ q ∷ vs)) (leaves_start S a b (p ∷ q ∷ vs) 0 c h) g n
 
-pub one_face_by : (S : Drawing) (a b : NodeRow) (p q : Point) (vs : List Point) → IsCovered S → IsAllowed S a b (p ∷ q ∷ vs) → face_at_end S b (p ∷ q ∷ vs) ≡ face_at_start S a (p ∷ q ∷ vs)
+pub one_face_by : (S : Drawing) (a b : NodeRow) (p q : Point) (vs : List Point) → IsCovered S → IsFree S a b (p ∷ q ∷ vs) → face_at_end S b (p ∷ q ∷ vs) ≡ face_at_start S a (p ∷ q ∷ vs)
 one_face_by S a b p q vs c h = same_face (face_at_start S a line) (face_at_end S b line) (λ g n.
-    sym (line_parity S a b p q vs c h g n (first_step x) (in_right (first_step x) (segments_of line) (walked_back (segments_of line)) (subst (In (first_step x)) (segments-reverse line) (first_on (added S a b p q vs 0) x comes.more comes.there))))
+    sym (line_parity S a b p q vs c h g n (first_step x) (in_right (first_step x) (segments_of line) (walked_back (segments_of line)) (subst (In (first_step x)) (segments-reverse line) (start_on (added S a b p q vs 0) x comes.more comes.there))))
     ∙ wedge_parity S (added S a b p q vs 0) b x (face_at_end S b line) (leaves_end S a b line 0 c h) g n)
   where
     line : List Point
@@ -178,7 +173,7 @@ stable true false n = absurd (n (λ e. both_ways true e refl))
 stable false true n = absurd (n (λ e. both_ways false refl e))
 stable false false n = refl
 
-point_parity : (S : Drawing) (a b : NodeRow) (p q : Point) (vs : List Point) (r : RationalPoint) (s : Segment) → IsCovered S → IsAllowed S a b (p ∷ q ∷ vs) → In s (segments_of (p ∷ q ∷ vs)) → IsOn r s →
+point_parity : (S : Drawing) (a b : NodeRow) (p q : Point) (vs : List Point) (r : RationalPoint) (s : Segment) → IsCovered S → IsFree S a b (p ∷ q ∷ vs) → In s (segments_of (p ∷ q ∷ vs)) → IsOn r s →
     (IsAt p r → ⊥) → (IsAt (last_vertex (p ∷ q ∷ vs)) r → ⊥) → (g : ℕ) → g ≢ 0 → above_at (border S g) r ≡ eqb (face_at_start S a (p ∷ q ∷ vs)) g
 point_parity S a b p q vs r s c h i on not_first not_last g n =
     stable (above_at (border S g) r) (eqb (face_at_start S a (p ∷ q ∷ vs)) g) (λ other. other
@@ -228,10 +223,10 @@ point_parity S a b p q vs r s c h i on not_first not_last g n =
         at_vertex (back s) walked at (λ u j e. not_old s k.0 i k.1.0 k.1.1 u j e))
         (joint_after (with_line (steps_of S) (first_of p q ∷ rest_of q vs)) (first_of p q) (rest_of q vs) (last_of p q vs) s comes.strung i)
 
-pub in_face_by : (S : Drawing) (a b : NodeRow) (p q : Point) (vs : List Point) (r : RationalPoint) → IsCovered S → IsAllowed S a b (p ∷ q ∷ vs) → IsOnLine r (p ∷ q ∷ vs) →
+pub in_face_by : (S : Drawing) (a b : NodeRow) (p q : Point) (vs : List Point) (r : RationalPoint) → IsCovered S → IsFree S a b (p ∷ q ∷ vs) → IsOnLine r (p ∷ q ∷ vs) →
     (IsAt p r → ⊥) → (IsAt (last_vertex (p ∷ q ∷ vs)) r → ⊥) → IsTrue (is_in S (face_at_start S a (p ∷ q ∷ vs)) r)
 in_face_by S a b p q vs r c h (s, (cs, on)) not_first not_last =
     in_by S r (face_at_start S a (p ∷ q ∷ vs))
     (λ g n. sym (in_face_at_is (face_of S) S g r (faces_given S (has_plain_lines S c.ringed.rings)))
     ∙ point_parity S a b p q vs r s c h (contains_in s (segments_of (p ∷ q ∷ vs)) cs) on not_first not_last g n)
-    (wedge_listed S a (first_direction (p ∷ q ∷ vs)) (known S c.ringed) h.from)
+    (wedge_listed S a (first_direction (p ∷ q ∷ vs)) (known S c.ringed) h.between.start_there)

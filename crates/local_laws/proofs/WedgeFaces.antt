@@ -2,7 +2,6 @@
 use Rattle.std.proofs.Common.{◌≡◌, ◌≢◌, ℕ, sym, ◌∙◌, ap, subst, ⊎_elim, true, false, eqb, Some, filter, unwrap_or}
 use Rattle.std.specs.List.{Contains}
 use Rattle.std.proofs.lemmas.Bool.{both_ways, false_from_ne_true}
-use Rattle.std.proofs.lemmas.Option.{slice_get-get_or}
 use Rattle.topo_base.specs.Point.{Point}
 use Rattle.topo_base.specs.RationalPoint.{rational}
 use Rattle.topo_base.specs.declared.rows.NodeRow.{NodeRow}
@@ -11,7 +10,7 @@ use Rattle.drawing.specs.Drawing.{Drawing, is_isolated}
 use Rattle.plane.specs.Parity.{xor}
 use Rattle.drawing.specs.Faces.{wedge_face, face_after}
 use Rattle.drawing.specs.HalfEdge.{HalfEdge, forward_of, backward_of, half_edges, twin, leaves}
-use Rattle.plane.specs.Line.{segments_of, first_vertex, no_point}
+use Rattle.plane.specs.Line.{segments_of, first_vertex}
 use Rattle.plane.specs.RationalTests.{IsOn}
 use Rattle.plane.specs.Segment.{Segment}
 use Rattle.drawing.specs.Star.{leaving, last_clockwise}
@@ -31,34 +30,27 @@ use Rattle.parity_laws.specs.Rings.{In, Next, Drawn, those, of_face}
 use Rattle.parity_laws.specs.Steps.{Even, direction, above, left}
 use Rattle.parity_laws.specs.Walks.{NotAt}
 use Rattle.parity_laws.specs.Ways.{inside}
+use Rattle.parity_laws.proofs.Across.{start_on as start_on_step}
 use Rattle.parity_laws.proofs.Nearby.{inside_start}
-use Rattle.parity_laws.proofs.Across.{start_on}
 use Rattle.parity_laws.proofs.Orbits.{label_even}
 use Rattle.parity_laws.proofs.Ringwise.{in_each, side_next}
 use Rattle.parity_laws.proofs.Star.{those_in, those_within}
 use Rattle.parity_laws.proofs.Sums.{xor_none}
 use Rattle.parity_laws.proofs.Walking.{not_turned}
-use Rattle.face_laws.specs.Walked.{steps_along, steps_of}
+use Rattle.face_laws.specs.Walked.{steps_of}
 use Rattle.face_laws.specs.Covered.{face_of, IsCovered}
 use Rattle.face_laws.proofs.Covering.{known}
 use Rattle.face_laws.proofs.FaceOnLeft.{left_is}
-use Rattle.face_laws.proofs.Following.{has_steps}
 use Rattle.face_laws.proofs.InnerTurns.{next_by_starts}
 use Rattle.face_laws.proofs.InsideNearer.{inside_nearer}
-use Rattle.face_laws.proofs.Lists.{in_contains, in_place}
-use Rattle.face_laws.proofs.NextTurns.{IsFirstOf, leaves_too}
+use Rattle.face_laws.proofs.Lists.{in_contains}
+use Rattle.face_laws.proofs.NextTurns.{leaves_too}
 use Rattle.face_laws.proofs.PlainSteps.{half_with, step_there, step_back, steps_plain}
-use Rattle.face_laws.proofs.RingLabels.{face_ringwise, first_step}
+use Rattle.face_laws.proofs.RingLabels.{face_ringwise, first_step, first_there}
 use Rattle.face_laws.proofs.Vertices.{first_way}
 use Rattle.subdivision_laws.proofs.AddedSides.{isolated_node, face_known}
 use Rattle.subdivision_laws.proofs.AddedSteps.{drawn_of}
-
--- the first step of a half-edge
-pub first_is : (S : Drawing) (h : HalfEdge) → HasPlainLines S → Contains (half_edges S) h → IsFirstOf h (first_step h)
-first_is S h good c = slice_get-get_or (segments_of h.points) 0 (record { a = no_point; b = no_point }) (has_steps S h good c)
-
-pub first_on : (S : Drawing) (h : HalfEdge) → HasPlainLines S → Contains (half_edges S) h → In (first_step h) (steps_along h)
-first_on S h good c = in_place (first_step h) (segments_of h.points) 0 (first_is S h good c)
+use Rattle.subdivision_laws.proofs.DividedFaces.{start_on}
 
 -- x comes to the drawing S, which T is with x and perhaps more
 pub record Comes (S T : Drawing) (x : HalfEdge) : Type 0 where
@@ -103,16 +95,16 @@ last_then S T x p c last =
     next_by_starts (steps_of S) (back (first_step p)) (first_step x) (λ r i. (steps_plain S c.lines).both r i) (sym begin_x ∙ sym vertex ∙ begin_p) (λ r i e.
     let (y, (cy, j)) = half_with S r i in
     let too = leaves_too S p y r c.lines last.there cy j (e ∙ sym begin_p) in
-    let u = first_way p.points (first_step p) (first_is S p c.lines last.there) in
-    let w = first_way x.points (first_step x) (first_is T x c.more c.there) in
+    let u = first_way p.points (first_step p) (first_there S p c.lines last.there) in
+    let w = first_way x.points (first_step x) (first_there T x c.more c.there) in
     let v = first_way y.points r too.first in
     (λ k. inside (u k) (w k) (v k)) ∙ none_before S T x p y c last cy (too.node ∙ last.one_node))
   where
     begin_p : first_vertex p.points ≡ (first_step p).a
-    begin_p = first_begins p.points (first_step p) (first_is S p c.lines last.there)
+    begin_p = first_begins p.points (first_step p) (first_there S p c.lines last.there)
 
     begin_x : first_vertex x.points ≡ (first_step x).a
-    begin_x = first_begins x.points (first_step x) (first_is T x c.more c.there)
+    begin_x = first_begins x.points (first_step x) (first_there T x c.more c.there)
 
     vertex : first_vertex p.points ≡ first_vertex x.points
     vertex =
@@ -124,7 +116,7 @@ no_step : (S : Drawing) (n : NodeRow) → HasPlainLines S → Contains S.nodes n
 no_step S n good cn none t i e =
     let (y, (cy, j)) = half_with S t i in
     let p = half_of S.edges y cy in
-    let on = (line_of S y good p).on_edge (rational n.geom) (t, (in_contains t (segments_of y.points) j, subst (λ (v : Point). IsOn (rational v) t) e (start_on t))) in
+    let on = (line_of S y good p).on_edge (rational n.geom) (t, (in_contains t (segments_of y.points) j, subst (λ (v : Point). IsOn (rational v) t) e (start_on_step t))) in
     ⊎_elim
     (λ (k : n.node_id ≡ p.edge.start_node). none (forward_of p.edge) (forward_there S.edges p.edge p.there) (sym k))
     (λ (k : n.node_id ≡ p.edge.end_node). none (backward_of p.edge) (backward_there S.edges p.edge p.there) (sym k))
@@ -155,7 +147,7 @@ wedge_parity S T n x f h g ng =
 
     beside : (p : HalfEdge) → IsLast (half_edges S) x p → p.on_right ≡ f → left (those (of_face (face_of S) g) (steps_of S)) (first_step x) ≡ eqb f g
     beside p last right =
-        let on = step_back p (first_step p) (first_on S p h.comes.lines last.there) in
+        let on = step_back p (first_step p) (start_on S p h.comes.lines last.there) in
         let cp = twin_there S.edges p last.there in
         let i = step_there S (twin p) (back (first_step p)) cp on in
         sym (side_next (steps_of S) (those (of_face (face_of S) g) (steps_of S)) (back (first_step p)) (first_step x) drawn.plain even (those_within (of_face (face_of S) g) (steps_of S)) i (last_then S T x p h.comes last))

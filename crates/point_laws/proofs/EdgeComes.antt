@@ -1,12 +1,11 @@
 -- An edge that comes within a face: each point of its line is in that face or on its border.
-use Rattle.std.proofs.Common.{◌≡◌, arith, ℕ, refl, sym, ◌∙◌, ap, subst, ◌⊎◌, inl, inr, ⊎_elim, true, false, ◌==◌, List, [], ◌∷◌, filter, eq-eqb, eqb-true, Option, Some, None, unwrap_or}
+use Rattle.std.proofs.Common.{◌≤◌, length, ◌≡◌, ℕ, refl, sym, ◌∙◌, ap, subst, ◌⊎◌, inl, inr, ⊎_elim, true, false, ◌==◌, List, [], ◌∷◌, filter, eq-eqb, eqb-true, Option, Some, None, unwrap_or}
 use Rattle.std.specs.Prelude.{IsTrue, reverse, fold}
 use Rattle.std.specs.List.{Contains}
 use Rattle.std.proofs.lemmas.Bool.{and_parts, false≢true, or_cases, or_left, or_right}
 use Rattle.topo_base.specs.Point.{Point, same_point}
 use Rattle.topo_base.specs.RationalPoint.{RationalPoint, IsAt}
 use Rattle.topo_base.specs.declared.rows.NodeRow.{NodeRow}
-use Rattle.drawing.specs.AddEdge.{face_at_start, face_at_end}
 use Rattle.plane.specs.Direction.{Direction, first_direction}
 use Rattle.drawing.specs.Drawing.{Drawing, Edge, is_end_of}
 use Rattle.drawing.specs.Faced.{is_in}
@@ -27,8 +26,8 @@ use Rattle.face_rings.proofs.HalvesApart.{half_of, forward_there, backward_there
 use Rattle.ring_laws.proofs.Inserting.{farthest_is}
 use Rattle.ring_laws.proofs.WithoutEdge.{leaves_end}
 use Rattle.parity_laws.proofs.Tests.{same_is}
-use Rattle.local_laws.specs.Local.{IsAllowed}
-use Rattle.local_laws.proofs.LineFaces.{one_face_by, in_face_by}
+use Rattle.edit_changes.specs.Evidence.{EdgeMayCome}
+use Rattle.local_laws.proofs.LineLaws.{lines_lie_in_faces}
 use Rattle.subdivision_laws.specs.Subdivided.{IsSubdivided}
 use Rattle.point_laws.proofs.Areal.{contained_in, contained_off, end_on_edge, has_containing, on_some_edge, at_or_not}
 
@@ -91,34 +90,21 @@ at_node S n way f q s c wedge at = ⊎_elim on_it off_it (on_some_edge S q)
             inr (beside_half S n f q h s c at both.0 (eqb-true h.from_node n.node_id both.1) (sym right ∙ ap (λ o. unwrap_or o (face_after (last_clockwise way (filter (leaves n.node_id) (half_edges S))))) (sym e) ∙ wedge))
 
 -- ---- each point of the line
--- what is known of the faces of a line between two nodes
-record LiesInFace (S : Drawing) (a b : NodeRow) (line : List Point) : Type 0 where
-  ends : face_at_end S b line ≡ face_at_start S a line
-  inside : (q : RationalPoint) → IsOnLine q line → (IsAt (first_vertex line) q → ⊥) → (IsAt (last_vertex line) q → ⊥) → IsTrue (is_in S (face_at_start S a line) q)
-
-lies_in_face : (S : Drawing) (a b : NodeRow) (line : List Point) → IsSubdivided S → IsAllowed S a b line → LiesInFace S a b line
-lies_in_face S a b [] s h = let long = h.long in absurd (omega arith)
-lies_in_face S a b (p ∷ []) s h = let long = h.long in absurd (omega arith)
-lies_in_face S a b (p ∷ r ∷ vs) s h = record { ends = one_face_by S a b p r vs s.covered h; inside = λ q on nf nl. in_face_by S a b p r vs q s.covered h on nf nl }
-
-pub on_line_of : (S : Drawing) (a b : NodeRow) (line : List Point) (q : RationalPoint) → IsSubdivided S → IsAllowed S a b line → IsOnLine q line
-    → (IsOffEdges S q × IsTrue (is_in S (face_at_start S a line) q)) ⊎ OnSides S (face_at_start S a line ∷ []) q
-on_line_of S a b line q s h on =
+pub on_line_of : (S : Drawing) (a b : NodeRow) (line : List Point) (f : ℕ) (q : RationalPoint) → IsSubdivided S → 2 ≤ length line → EdgeMayCome S a b line f → IsOnLine q line
+    → (IsOffEdges S q × IsTrue (is_in S f q)) ⊎ OnSides S (f ∷ []) q
+on_line_of S a b line f q s long k on =
     ⊎_elim
-    (λ (k : IsAt (first_vertex line) q). at_node S a (first_direction line) (face_at_start S a line) q s h.from refl (subst (λ p. IsAt p q) (same_is (first_vertex line) a.geom ends.0) k))
+    (λ (at : IsAt (first_vertex line) q). at_node S a (first_direction line) f q s k.start_there k.starts_in (subst (λ p. IsAt p q) (same_is (first_vertex line) a.geom ends.0) at))
     (λ (nf : IsAt (first_vertex line) q → ⊥).
     ⊎_elim
-    (λ (k : IsAt (last_vertex line) q). at_node S b (first_direction (reverse line)) (face_at_start S a line) q s h.to (lies.ends) (subst (λ p. IsAt p q) (same_is (last_vertex line) b.geom ends.1) k))
+    (λ (at : IsAt (last_vertex line) q). at_node S b (first_direction (reverse line)) f q s k.end_there k.ends_in (subst (λ p. IsAt p q) (same_is (last_vertex line) b.geom ends.1) at))
     (λ (nl : IsAt (last_vertex line) q → ⊥).
     inl (
-      λ x c i. false≢true (sym h.free ∙ (Decides-line_blocked S line).1 (q, ((on, nf, nl), inr (x, (c, i))))),
-      lies.inside q on nf nl,
+      λ x c i. false≢true (sym k.free ∙ (Decides-line_blocked S line).1 (q, ((on, nf, nl), inr (x, (c, i))))),
+      lines_lie_in_faces.in_face S a b line f q s long k on nf nl,
     ))
     (at_or_not (last_vertex line) q))
     (at_or_not (first_vertex line) q)
   where
-    lies : LiesInFace S a b line
-    lies = lies_in_face S a b line s h
-
     ends : (same_point (first_vertex line) a.geom ≡ true) × (same_point (last_vertex line) b.geom ≡ true)
-    ends = and_parts (same_point (first_vertex line) a.geom) (same_point (last_vertex line) b.geom) h.between
+    ends = and_parts (same_point (first_vertex line) a.geom) (same_point (last_vertex line) b.geom) k.ends

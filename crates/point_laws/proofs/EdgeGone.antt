@@ -29,8 +29,9 @@ use Rattle.parity_laws.specs.Steps.{left}
 use Rattle.parity_laws.proofs.OnLine.{forth_in}
 use Rattle.face_laws.specs.Covered.{IsCovered, face_of}
 use Rattle.face_laws.specs.Walked.{steps_of}
-use Rattle.local_laws.specs.Local.{IsAllowed}
-use Rattle.local_laws.proofs.LineFaces.{line_parity}
+use Rattle.edit_changes.specs.Evidence.{EdgeMayCome}
+use Rattle.local_laws.proofs.LineFaces.{IsFree, line_parity}
+use Rattle.local_laws.proofs.LineLaws.{lines_lie_in_faces}
 use Rattle.subdivision_laws.specs.Subdivided.{IsSubdivided}
 use Rattle.point_laws.proofs.EdgeComes.{on_line_of}
 
@@ -45,8 +46,8 @@ pub record IsLess (S T : Drawing) (e : Edge) : Type 0 where
   pub was_edge : (y : Edge) → Contains T.edges y → (x : Edge) × (Contains S.edges x × ((x.edge_id ≡ e.edge_id → ⊥) × (y.geom ≡ x.geom)))
 
 -- ---- the edge may come again
-again : (S T : Drawing) (e : Edge) → HasPlainLines S → IsLess S T e → (a : NodeRow) × ((b : NodeRow) × IsAllowed T a b e.geom)
-again S T e good h = (a.0, (b.0, record { from = a.1.0; to = b.1.0; long = good.long e h.there; between = between; simple = simple; free = free }))
+again : (S T : Drawing) (e : Edge) → HasPlainLines S → IsLess S T e → (a : NodeRow) × ((b : NodeRow) × IsFree T a b e.geom)
+again S T e good h = (a.0, (b.0, record { between = record { start_there = a.1.0; end_there = b.1.0; long = good.long e h.there; ends = between; simple = simple }; free = free }))
   where
     starts : Some_of (λ (row : NodeRow). (row.node_id ≡ e.start_node) × SameCoordinates row.geom (first_vertex e.geom)) S.nodes
     starts = (good.plain.fit e h.there).starts
@@ -109,9 +110,9 @@ same_face (suc f) k h = eqb-true k (suc f) (sym (h (suc f) (λ e. omega (arith, 
 abbrev pub IsBeside : Drawing → Segment → ℕ → Type 0
 IsBeside T s k = (g : ℕ) → g ≢ 0 → left (those (of_face (face_of T) g) (steps_of T)) s ≡ eqb k g
 
-start_face : (T : Drawing) (a b : NodeRow) (line : List Point) (first : Segment) (rest : List Segment) (k : ℕ) → segments_of line ≡ first ∷ rest → IsCovered T → IsAllowed T a b line → IsBeside T first k → face_at_start T a line ≡ k
-start_face T a b [] first rest k is c h beside = let long = h.long in absurd (omega arith)
-start_face T a b (p ∷ []) first rest k is c h beside = let long = h.long in absurd (omega arith)
+start_face : (T : Drawing) (a b : NodeRow) (line : List Point) (first : Segment) (rest : List Segment) (k : ℕ) → segments_of line ≡ first ∷ rest → IsCovered T → IsFree T a b line → IsBeside T first k → face_at_start T a line ≡ k
+start_face T a b [] first rest k is c h beside = let long = h.between.long in absurd (omega arith)
+start_face T a b (p ∷ []) first rest k is c h beside = let long = h.between.long in absurd (omega arith)
 start_face T a b (p ∷ r ∷ vs) first rest k is c h beside =
     same_face k (face_at_start T a (p ∷ r ∷ vs)) (λ g n. sym (beside g n) ∙ line_parity T a b p r vs c h g n first (forth_in (segments_of (p ∷ r ∷ vs)) first (subst (In first) (sym is) (inl refl))))
 
@@ -119,4 +120,5 @@ pub on_gone : (S T : Drawing) (e : Edge) (first : Segment) (rest : List Segment)
     → (IsOffEdges T q × IsTrue (is_in T k q)) ⊎ OnSides T (k ∷ []) q
 on_gone S T e first rest k q s t h line beside on =
     let (a, (b, may)) = again S T e (has_plain_lines S s.covered.ringed.rings) h in
-    subst (λ m. (IsOffEdges T q × IsTrue (is_in T m q)) ⊎ OnSides T (m ∷ []) q) (start_face T a b e.geom first rest k line t.covered may beside) (on_line_of T a b e.geom q t may on)
+    let comes = lines_lie_in_faces.may_come T a b e.geom t may.between may.free in
+    on_line_of T a b e.geom k q t may.between.long (subst (EdgeMayCome T a b e.geom) (start_face T a b e.geom first rest k line t.covered may beside) comes) on

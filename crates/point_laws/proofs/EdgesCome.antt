@@ -1,6 +1,6 @@
 -- Edges that come leave the points of features.
-use Rattle.std.proofs.Common.{◌≡◌, ◌≢◌, ◌∙◌, ℕ, ◌+◌, arith, refl, sym, subst, ◌⊎◌, inl, inr, ⊎_elim, Bool, true, false, cond, not, ◌==◌, List, [], ◌∷◌, ◌++◌, filter, length, eqb-true, None}
-use Rattle.std.specs.Prelude.{IsTrue, nat_le, ◌↔◌}
+use Rattle.std.proofs.Common.{◌≤◌, ◌≡◌, ◌≢◌, ◌∙◌, ℕ, ◌+◌, arith, refl, sym, subst, ◌⊎◌, inl, inr, ⊎_elim, Bool, true, false, cond, not, ◌==◌, List, [], ◌∷◌, ◌++◌, filter, length, eqb-true, None}
+use Rattle.std.specs.Prelude.{nat_le, ◌↔◌}
 use Rattle.std.specs.List.{Contains}
 use Rattle.std.proofs.lemmas.Bool.{and_parts, both_ways, eq-eqb, leb-true, not-true}
 use Rattle.std.proofs.lemmas.List.Elements.{Contains-append_cases, Contains-append_right, Contains-push, Contains-push_cases}
@@ -9,10 +9,7 @@ use Rattle.topo_base.specs.declared.rows.NodeRow.{NodeRow}
 use Rattle.plane.proofs.ListTests.{contains_cases, contains_here, contains_none, contains_there}
 use Rattle.drawing.specs.Accepted.{is_line_short}
 use Rattle.drawing.specs.AddEdge.{Division, coming, keeps_left, one_new, two_new}
-use Rattle.drawing.specs.DrawnPoints.{IsOffEdges}
 use Rattle.drawing.specs.Drawing.{Drawing, Edge, has_face}
-use Rattle.drawing.specs.Faced.{is_in}
-use Rattle.drawing.specs.FeaturePoints.{OnSides}
 use Rattle.drawing.specs.IsoEdits.{with_edge}
 use Rattle.drawing.proofs.Members.{contains-filtered}
 use Rattle.edit_changes.specs.Evidence.{EdgeMayCome, FaceMayBeDivided, left_ring, right_ring}
@@ -20,7 +17,6 @@ use Rattle.plane.specs.Direction.{first_direction}
 use Rattle.drawing.specs.Relations.{is_among}
 use Rattle.ring_laws.proofs.Known.{any_in, any_out, wedge_listed}
 use Rattle.face_laws.proofs.Covering.{known}
-use Rattle.local_laws.specs.Local.{IsAllowed}
 use Rattle.subdivision_laws.specs.Subdivided.{IsSubdivided}
 use Rattle.subdivision_laws.proofs.RingAdded.{FacesBelow, faces_below, faces_in_order}
 use Rattle.point_laws.specs.PointsStay.{KeepsPoints}
@@ -34,15 +30,8 @@ use Rattle.point_laws.proofs.OneMore.{HasOneMore, same_in}
 use Rattle.point_laws.proofs.Told.{IsTold}
 
 -- ---- the line
-allowed : (S : Drawing) (a b : NodeRow) (line : List Point) (f : ℕ) → EdgeMayCome S a b line f → is_line_short line ≡ true → IsAllowed S a b line
-allowed S a b line f k short = record {
-  from = k.start_there;
-  to = k.end_there;
-  long = leb-true 2 (length line) (and_parts (nat_le 2 (length line)) (nat_le (length line) 4096) short).0;
-  between = k.ends;
-  simple = k.simple;
-  free = k.free;
-}
+line_long : (line : List Point) → is_line_short line ≡ true → 2 ≤ length line
+line_long line short = leb-true 2 (length line) (and_parts (nat_le 2 (length line)) (nat_le (length line) 4096) short).0
 
 -- ---- an edge within a face
 abbrev own_name : ℕ → ℕ
@@ -70,7 +59,7 @@ within S a b line f h k short later = record {
   left = refl;
   right = refl;
   inside = λ g q there inside. same_in (with_edge S a b line f) S g q later refl (λ m. border_total m q S.edges ∙ sym (total_more m q S.edges e refl) ∙ sym (border_total m q (S.edges ++ e ∷ []))) inside;
-  on = λ q on. subst (λ m. (IsOffEdges S q × IsTrue (is_in S m q)) ⊎ OnSides S (m ∷ []) q) k.starts_in (on_line_of S a b line q h.before (allowed S a b line f k short) on);
+  on = λ q on. on_line_of S a b line f q h.before (line_long line short) k on;
 }
   where
     e : Edge
@@ -189,7 +178,7 @@ two_parts S f h listed = record {
 
 -- ---- a face is divided
 divides : (S : Drawing) (a b : NodeRow) (line : List Point) (d : Division) (fs : List ℕ) → FaceMayBeDivided S a b line d.face → is_line_short line ≡ true → IsTold S → AreParts S fs d.left_part d.right_part d.face → Divides S a b line d fs
-divides S a b line d fs k short h parts = record { told = h; parts = parts; allowed = allowed S a b line d.face k.edge short; start = sym k.edge.starts_in }
+divides S a b line d fs k short h parts = record { told = h; parts = parts; long = line_long line short; may = k.edge }
 
 face_listed : (S : Drawing) (a b : NodeRow) (line : List Point) (f : ℕ) → EdgeMayCome S a b line f → IsTold S → has_face S f ≡ true
 face_listed S a b line f k h = subst (λ z. has_face S z ≡ true) k.starts_in (wedge_listed S a (first_direction line) (known S h.before.covered.ringed) k.start_there)

@@ -322,8 +322,8 @@ face_stays S gone g there off =
     (x, (contains-filter (λ f. not (is_among f gone)) x S.faces c (ap not (subst (λ m. is_among m gone ≡ false) (sym is) off)), is))
 
 sides_of : (e : Edge) (kept goes : ℕ) → AreSides e kept goes → ((kept ≡ e.left_face) ⊎ (kept ≡ e.right_face)) × ((goes ≡ e.left_face) ⊎ (goes ≡ e.right_face)) × ((g : ℕ) → (g ≡ e.left_face) ⊎ (g ≡ e.right_face) → (g ≡ goes) ⊎ (g ≡ kept))
-sides_of e kept goes (inl s) = (inl s.0, inr s.1, λ g at. ⊎_elim (λ (p : g ≡ e.left_face). inr (p ∙ sym s.0)) (λ (p : g ≡ e.right_face). inl (p ∙ sym s.1)) at)
-sides_of e kept goes (inr s) = (inr s.0, inl s.1, λ g at. ⊎_elim (λ (p : g ≡ e.left_face). inl (p ∙ sym s.1)) (λ (p : g ≡ e.right_face). inr (p ∙ sym s.0)) at)
+sides_of e kept gone (inl s) = (inl s.0, inr s.1, λ g at. ⊎_elim (λ (p : g ≡ e.left_face). inr (p ∙ sym s.0)) (λ (p : g ≡ e.right_face). inl (p ∙ sym s.1)) at)
+sides_of e kept gone (inr s) = (inr s.0, inl s.1, λ g at. ⊎_elim (λ (p : g ≡ e.left_face). inl (p ∙ sym s.1)) (λ (p : g ≡ e.right_face). inr (p ∙ sym s.0)) at)
 
 -- the same features list the two sides
 sides_alike : (S : Drawing) (e : Edge) (u g k : ℕ) → IsTold S → FacesMayJoin S e → HasLevel S Areal zero u → (g ≡ e.left_face) ⊎ (g ≡ e.right_face) → (k ≡ e.left_face) ⊎ (k ≡ e.right_face) → Contains (listed_by S u) g → Contains (listed_by S u) k

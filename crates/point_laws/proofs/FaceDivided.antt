@@ -1,6 +1,6 @@
 -- A face that is divided by an edge: its parts have its points.
-use Rattle.std.proofs.Common.{◌≡◌, ◌≢◌, ◌∙◌, ℕ, zero, None, refl, sym, ap, subst, ◌⊎◌, inl, inr, ⊎_elim, Bool, true, false, cond, not, ◌||◌, ◌==◌, List, [], ◌∷◌, ◌++◌, map, eqb, eqb-true}
-use Rattle.std.specs.Prelude.{◌↔◌, IsTrue, nat_eq, Some}
+use Rattle.std.proofs.Common.{length, ◌≤◌, ◌≡◌, ◌≢◌, ◌∙◌, ℕ, zero, None, refl, sym, ap, subst, ◌⊎◌, inl, inr, ⊎_elim, Bool, true, false, cond, not, ◌||◌, ◌==◌, List, [], ◌∷◌, ◌++◌, map, eqb, eqb-true}
+use Rattle.std.specs.Prelude.{◌↔◌, nat_eq, Some}
 use Rattle.std.specs.Option.{option_eq}
 use Rattle.std.specs.List.{Contains, list_any}
 use Rattle.std.proofs.lemmas.Bool.{and_parts, both_ways, eq-eqb, false_from_ne_true, ne_eqb, or_cases}
@@ -11,12 +11,9 @@ use Rattle.topo_base.specs.declared.kind.Kind.TheVariants.{Areal, Lineal, Puntal
 use Rattle.topo_base.specs.declared.rows.NodeRow.{NodeRow}
 use Rattle.plane.specs.Parity.{xor}
 use Rattle.plane.proofs.ListTests.{contains_cases, contains_here, contains_none, contains_there}
-use Rattle.drawing.specs.AddEdge.{Division, coming, divided, divided_edge, face_at_start, divided_node, divided_side, part_beside, part_at}
+use Rattle.drawing.specs.AddEdge.{Division, coming, divided, divided_edge, divided_node, divided_side, part_beside, part_at}
 use Rattle.drawing.specs.Descent.{listed_by}
-use Rattle.drawing.specs.DrawnPoints.{IsOffEdges}
 use Rattle.drawing.specs.Drawing.{Drawing, Edge, has_face, node_id_of}
-use Rattle.drawing.specs.Faced.{is_in}
-use Rattle.drawing.specs.FeaturePoints.{OnSides}
 use Rattle.drawing.specs.HalfEdge.{HalfEdge, backward_of, forward_of, half_edges}
 use Rattle.drawing.specs.IsoEdits.{put_in_face, with_edge}
 use Rattle.drawing.specs.RemoveEdge.{renamed}
@@ -25,7 +22,7 @@ use Rattle.drawing.proofs.Members.{contains-map, contains-mapped}
 use Rattle.parity_laws.proofs.JoinedFaces.{JoinedNumber}
 use Rattle.face_laws.proofs.Covering.{known}
 use Rattle.subdivision_laws.specs.Subdivided.{IsSubdivided}
-use Rattle.local_laws.specs.Local.{IsAllowed}
+use Rattle.edit_changes.specs.Evidence.{EdgeMayCome}
 use Rattle.point_laws.specs.PointsStay.{KeepsPoints}
 use Rattle.point_laws.proofs.CutParity.{border_total, total, total_more}
 use Rattle.point_laws.proofs.EdgeComes.{on_line_of}
@@ -129,8 +126,8 @@ name_of d = renamed (d.left_part ∷ d.right_part ∷ []) d.face
 pub record Divides (S : Drawing) (a b : NodeRow) (line : List Point) (d : Division) (fs : List ℕ) : Type 0 where
   pub told : IsTold S
   pub parts : AreParts S fs d.left_part d.right_part d.face
-  pub allowed : IsAllowed S a b line
-  pub start : d.face ≡ face_at_start S a line
+  pub long : 2 ≤ length line
+  pub may : EdgeMayCome S a b line d.face
 
 -- ---- the edges of both
 -- the edges with the new one, before the face is divided
@@ -209,7 +206,7 @@ one_more S a b line d fs count h later = record {
   left = sym (edge_renamed S a b line d fs count h later e own).left;
   right = sym (edge_renamed S a b line d fs count h later e own).right;
   inside = λ g q there inside. in_halves S (parted S a b line d fs count) d.left_part d.right_part d.face (name_of d) g q h.told.before later (halves S a b line d fs count h) there inside;
-  on = λ q on. subst (λ m. (IsOffEdges S q × IsTrue (is_in S m q)) ⊎ OnSides S (m ∷ []) q) (sym h.start) (on_line_of S a b line q h.told.before h.allowed on);
+  on = λ q on. on_line_of S a b line d.face q h.told.before h.long h.may on;
 }
   where
     e : Edge
