@@ -2,7 +2,7 @@
 use Rattle.std.proofs.Common.{◌≡◌, ◌∙◌, ℕ, zero, ◌+◌, arith, refl, sym, ap, subst, ◌⊎◌, inl, inr, ⊎_elim, Bool, true, false, ◌||◌, ◌==◌, List, [], ◌∷◌, eqb-true}
 use Rattle.std.specs.Prelude.{◌↔◌, reverse}
 use Rattle.std.specs.List.{Contains}
-use Rattle.std.proofs.lemmas.Bool.{both_ways, false≢true, ne_eqb, or_cases, or_left, or_right}
+use Rattle.std.proofs.lemmas.Bool.{both_ways, false≢true, ne_eqb, or_cases}
 use Rattle.std.proofs.lemmas.List.{reverse-reverse}
 use Rattle.topo_base.specs.RationalPoint.{RationalPoint}
 use Rattle.topo_base.specs.declared.kind.Kind.{Kind}
@@ -41,11 +41,10 @@ use Rattle.subdivision_laws.specs.Subdivided.{IsSubdivided}
 use Rattle.subdivision_laws.proofs.HealsStay.{IsAlong, healed_along, joint_along}
 use Rattle.subdivision_laws.proofs.SameSteps.{same_over}
 use Rattle.point_laws.specs.PointsStay.{KeepsPoints}
-use Rattle.point_laws.proofs.Areal.{InArea, area_from, area_to}
 use Rattle.point_laws.proofs.Follow.{above_same_rows, listed_anew, other_same_rows}
 use Rattle.point_laws.proofs.Levels.{HasLevel, points_kept}
 use Rattle.point_laws.proofs.NodeEdits.{goes_at}
-use Rattle.point_laws.proofs.OneMore.{same_in}
+use Rattle.point_laws.proofs.SameArea.{IsSameArea, LieOn, has_side, same_area}
 use Rattle.point_laws.proofs.Primitive.{among_in, among_out, among_same, listed_alike, listing, rows_list, turned_alike}
 use Rattle.point_laws.proofs.Told.{IsTold}
 
@@ -59,9 +58,6 @@ on_half x h k q (inr b) = (
 )
 
 -- and its sides
-abbrev has_side : Edge → List ℕ → Bool
-has_side x ids = is_among x.left_face ids || is_among x.right_face ids
-
 or_turned : (a b : Bool) → (a || b) ≡ (b || a)
 or_turned true true = refl
 or_turned true false = refl
@@ -71,13 +67,6 @@ or_turned false false = refl
 sides_of_half : (x : Edge) (h k : HalfEdge) (ids : List ℕ) → AreBoth x h k → has_side x ids ≡ (is_among h.on_left ids || is_among h.on_right ids)
 sides_of_half x h k ids (inl b) = ap (λ (z : HalfEdge). is_among z.on_left ids || is_among z.on_right ids) b.0
 sides_of_half x h k ids (inr b) = or_turned (is_among x.left_face ids) (is_among x.right_face ids) ∙ ap (λ (z : HalfEdge). is_among z.on_left ids || is_among z.on_right ids) b.0
-
-side_same : (x : Edge) (xs ys : List ℕ) → ((w : ℕ) → Contains xs w → Contains ys w) → has_side x xs ≡ true → has_side x ys ≡ true
-side_same x xs ys lists h =
-    ⊎_elim
-    (λ (k : is_among x.left_face xs ≡ true). or_left (is_among x.left_face ys) (is_among x.right_face ys) (among_same x.left_face xs ys lists k))
-    (λ (k : is_among x.right_face xs ≡ true). or_right (is_among x.left_face ys) (is_among x.right_face ys) (among_same x.right_face xs ys lists k))
-    (or_cases (is_among x.left_face xs) (is_among x.right_face xs) h)
 
 -- ---- the joined edge
 -- it has the points of the two, and the faces of each beside it
@@ -155,63 +144,34 @@ parity S n e f id fs ids h g q =
     sym (in_face_at_is (face_of T) T g q (faces_given T more)) ∙ same_over S T g q good more both.0 both.1 ∙ in_face_at_is (face_of S) S g q (faces_given S good)
 
 -- ---- features of faces
-area_to_healed : (S : Drawing) (n : ℕ) (e f : Edge) (id : ℕ) (fs : List Edge) (ids : Counters) (xs ys : List ℕ) (q : RationalPoint) → Heals S n e f id fs ids → ((w : ℕ) → Contains xs w → Contains ys w)
-    → InArea S xs q → InArea (healed S n e f id fs ids) ys q
-area_to_healed S n e f id fs ids xs ys q h lists (inl (off, (g, (among, inside)))) =
-    inl (
-      λ x cx on. ⊎_elim
-          (λ (old : Contains S.edges x × (x.edge_id ≡ e.edge_id → ⊥) × (x.edge_id ≡ f.edge_id → ⊥)). off x old.0 on)
-          (λ (is : joined_edge n e f id ≡ x).
-          ⊎_elim (λ (a : IsOnEdge q e). off e h.edges.e_there a) (λ (b : IsOnEdge q f). off f h.edges.f_there b) ((one_edge S n e f id fs ids h).on q (subst (IsOnEdge q) (sym is) on)))
-          (h.edges.from x cx),
-      (g, (among_same g xs ys lists among, same_in S (healed S n e f id fs ids) g q h.told.before refl (λ m. parity S n e f id fs ids h m q) inside)),
-    )
-area_to_healed S n e f id fs ids xs ys q h lists (inr (x, (cx, sides, on))) =
-    ⊎_elim
-    (λ (is : x ≡ e). made (subst (λ (z : Edge). has_side z xs ≡ true) is sides) (one.first_sides xs) (one.first q (subst (IsOnEdge q) is on)))
-    (λ (o : (x ≡ f) ⊎ ((x.edge_id ≡ e.edge_id → ⊥) × (x.edge_id ≡ f.edge_id → ⊥))).
-    ⊎_elim
-    (λ (is : x ≡ f). made (subst (λ (z : Edge). has_side z xs ≡ true) is sides) (one.second_sides xs) (one.second q (subst (IsOnEdge q) is on)))
-    (λ (far : (x.edge_id ≡ e.edge_id → ⊥) × (x.edge_id ≡ f.edge_id → ⊥)). inr (x, (h.edges.old x cx far.0 far.1, side_same x xs ys lists sides, on)))
-    o)
-    (edge_cases S n e f id fs x (has_plain_lines S h.told.before.covered.ringed.rings) h.edges cx)
+healed_area : (S : Drawing) (n : ℕ) (e f : Edge) (id : ℕ) (fs : List Edge) (ids : Counters) → Heals S n e f id fs ids → IsSameArea S (healed S n e f id fs ids)
+healed_area S n e f id fs ids h = record { forth = forth; back = λ x q cx on. back x q on (h.edges.from x cx); faces = refl; parity = parity S n e f id fs ids h }
   where
+    J : Edge
+    J = joined_edge n e f id
+
     one : IsOneOf e f (joined_edge n e f id)
     one = one_edge S n e f id fs ids h
 
-    made : {a : Bool} → a ≡ true → a ≡ has_side (joined_edge n e f id) xs → IsOnEdge q (joined_edge n e f id) → InArea (healed S n e f id fs ids) ys q
-    made t same on = inr (joined_edge n e f id, (h.edges.made, side_same (joined_edge n e f id) xs ys lists (sym same ∙ t), on))
+    forth : LieOn S (healed S n e f id fs ids)
+    forth x q cx on =
+        ⊎_elim
+        (λ (is : x ≡ e). (J, (h.edges.made, one.first q (subst (IsOnEdge q) is on), λ xs. ap (λ z. has_side z xs) is ∙ one.first_sides xs)))
+        (λ (o : (x ≡ f) ⊎ ((x.edge_id ≡ e.edge_id → ⊥) × (x.edge_id ≡ f.edge_id → ⊥))).
+        ⊎_elim
+        (λ (is : x ≡ f). (J, (h.edges.made, one.second q (subst (IsOnEdge q) is on), λ xs. ap (λ z. has_side z xs) is ∙ one.second_sides xs)))
+        (λ (far : (x.edge_id ≡ e.edge_id → ⊥) × (x.edge_id ≡ f.edge_id → ⊥)). (x, (h.edges.old x cx far.0 far.1, on, λ xs. refl)))
+        o)
+        (edge_cases S n e f id fs x (has_plain_lines S h.told.before.covered.ringed.rings) h.edges cx)
 
-area_from_healed : (S : Drawing) (n : ℕ) (e f : Edge) (id : ℕ) (fs : List Edge) (ids : Counters) (xs ys : List ℕ) (q : RationalPoint) → Heals S n e f id fs ids → ((w : ℕ) → Contains ys w → Contains xs w)
-    → InArea (healed S n e f id fs ids) ys q → InArea S xs q
-area_from_healed S n e f id fs ids xs ys q h lists (inl (off, (g, (among, inside)))) =
-    inl (
-      λ x cx on. ⊎_elim
-          (λ (is : x ≡ e). off (joined_edge n e f id) h.edges.made (one.first q (subst (IsOnEdge q) is on)))
-          (λ (o : (x ≡ f) ⊎ ((x.edge_id ≡ e.edge_id → ⊥) × (x.edge_id ≡ f.edge_id → ⊥))).
-          ⊎_elim
-          (λ (is : x ≡ f). off (joined_edge n e f id) h.edges.made (one.second q (subst (IsOnEdge q) is on)))
-          (λ (far : (x.edge_id ≡ e.edge_id → ⊥) × (x.edge_id ≡ f.edge_id → ⊥)). off x (h.edges.old x cx far.0 far.1) on)
-          o)
-          (edge_cases S n e f id fs x (has_plain_lines S h.told.before.covered.ringed.rings) h.edges cx),
-      (g, (among_same g ys xs lists among, same_in (healed S n e f id fs ids) S g q h.later refl (λ m. sym (parity S n e f id fs ids h m q)) inside)),
-    )
-  where
-    one : IsOneOf e f (joined_edge n e f id)
-    one = one_edge S n e f id fs ids h
-area_from_healed S n e f id fs ids xs ys q h lists (inr (x, (cx, sides, on))) =
-    ⊎_elim
-    (λ (old : Contains S.edges x × (x.edge_id ≡ e.edge_id → ⊥) × (x.edge_id ≡ f.edge_id → ⊥)). inr (x, (old.0, side_same x ys xs lists sides, on)))
-    (λ (is : joined_edge n e f id ≡ x).
-    let own = subst (λ (z : Edge). has_side z ys ≡ true) (sym is) sides in
-    ⊎_elim
-    (λ (a : IsOnEdge q e). inr (e, (h.edges.e_there, side_same e ys xs lists (one.first_sides ys ∙ own), a)))
-    (λ (b : IsOnEdge q f). inr (f, (h.edges.f_there, side_same f ys xs lists (one.second_sides ys ∙ own), b)))
-    (one.on q (subst (IsOnEdge q) (sym is) on)))
-    (h.edges.from x cx)
-  where
-    one : IsOneOf e f (joined_edge n e f id)
-    one = one_edge S n e f id fs ids h
+    back : (x : Edge) (q : RationalPoint) → IsOnEdge q x → (Contains S.edges x × (x.edge_id ≡ e.edge_id → ⊥) × (x.edge_id ≡ f.edge_id → ⊥)) ⊎ (joined_edge n e f id ≡ x)
+        → (y : Edge) × (Contains S.edges y × IsOnEdge q y × ((xs : List ℕ) → has_side x xs ≡ has_side y xs))
+    back x q on (inl old) = (x, (old.0, on, λ xs. refl))
+    back x q on (inr is) =
+        ⊎_elim
+        (λ (a : IsOnEdge q e). (e, (h.edges.e_there, a, λ xs. ap (λ z. has_side z xs) (sym is) ∙ sym (one.first_sides xs))))
+        (λ (b : IsOnEdge q f). (f, (h.edges.f_there, b, λ xs. ap (λ z. has_side z xs) (sym is) ∙ sym (one.second_sides xs))))
+        (one.on q (subst (IsOnEdge q) (sym is) on))
 
 -- ---- features of edges
 pair_of : (a b w : ℕ) → is_among w (a ∷ b ∷ []) ≡ true → (w ≡ a) ⊎ (w ≡ b)
@@ -323,10 +283,7 @@ heals S n e f id fs ids h t before still =
         )
     by Lineal u q k = edges_healed S n e f id fs ids u q h k
     by Areal u q k =
-        let same : (w : ℕ) → Contains (listed_by S u) w ↔ Contains (listed_by T u) w = λ w. other_same_rows S edge_type old (id ∷ []) Areal u w h.told.rows refl k in (
-          λ p. area_to T (listed_by T u) q h.later (area_to_healed S n e f id fs ids (listed_by S u) (listed_by T u) q h (λ w. (same w).0) (area_from S (listed_by S u) q h.told.before p)),
-          λ p. area_to S (listed_by S u) q h.told.before (area_from_healed S n e f id fs ids (listed_by S u) (listed_by T u) q h (λ w. (same w).1) (area_from T (listed_by T u) q h.later p)),
-        )
+        same_area S T (listed_by S u) (listed_by T u) q h.told.before h.later (healed_area S n e f id fs ids h) (λ w. other_same_rows S edge_type old (id ∷ []) Areal u w h.told.rows refl k)
 
 -- the first edge is what they become
 pub edges_joined : (S : Drawing) (e f : Edge) (n : ℕ) → EdgesMayBeJoined S e f n → IsTold S → IsSubdivided ((heal_mod_done S e f n).drawing) → KeepsPoints S ((heal_mod_done S e f n).drawing)

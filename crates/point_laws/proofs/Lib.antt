@@ -9,6 +9,7 @@ pub mod Follow
 pub mod OneMore
 pub mod JoinedParity
 pub mod EdgePoints
+pub mod SameArea
 pub mod EdgeComes
 pub mod FaceDivided
 pub mod EdgesCome

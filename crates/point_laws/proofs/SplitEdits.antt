@@ -1,14 +1,15 @@
--- Edges that are split leave the points of features of nodes and of edges.
+-- Edges that are split leave the points of features.
 use Rattle.std.proofs.Common.{◌≡◌, ◌≢◌, ◌∙◌, ℕ, zero, ◌+◌, arith, refl, sym, ap, subst, ◌⊎◌, inl, inr, ⊎_elim, true, false, ◌||◌, ◌==◌, eq-eqb, eqb-true, List, [], ◌∷◌, ◌++◌}
 use Rattle.std.specs.Prelude.{◌↔◌, IsTrue}
 use Rattle.std.specs.List.{Contains, list_all}
-use Rattle.std.proofs.lemmas.Bool.{false≢true, ne_eqb, or_cases, or_left, or_right}
+use Rattle.std.proofs.lemmas.Bool.{false≢true, ne_eqb, or_cases, or_left}
 use Rattle.topo_base.specs.Kinds.{kind_number}
 use Rattle.topo_base.specs.Point.{Point}
 use Rattle.topo_base.specs.RationalPoint.{RationalPoint}
 use Rattle.topo_base.specs.declared.kind.Kind.{Kind}
 use Rattle.topo_base.specs.declared.kind.Kind.TheVariants.{Puntal, Lineal, Areal}
 use Rattle.topo_base.specs.declared.rows.Counters.{Counters}
+use Rattle.topo_base.specs.declared.rows.RelationRow.{RelationRow}
 use Rattle.drawing.specs.Descent.{listed_by}
 use Rattle.drawing.specs.Drawing.{Drawing, Edge, edge_id_of}
 use Rattle.drawing.specs.FeaturePoints.{AtNodes, OnEdges, IsPointOfElements}
@@ -42,13 +43,12 @@ use Rattle.edit_changes.specs.Evidence.{EdgeMayBeCut}
 use Rattle.drawing.specs.SplitEdge.{split_mod_done, split_new_done}
 use Rattle.point_laws.specs.PointsStay.{KeepsPoints}
 use Rattle.point_laws.proofs.Told.{IsTold}
-use Rattle.point_laws.proofs.Areal.{InArea, area_from, area_to}
 use Rattle.point_laws.proofs.CutParity.{both_same, changed_same}
-use Rattle.point_laws.proofs.OneMore.{same_in}
-use Rattle.point_laws.proofs.Follow.{behind, listed_anew, listed_same}
-use Rattle.point_laws.proofs.Levels.{HasLevel, above_rows, points_kept}
+use Rattle.point_laws.proofs.SameArea.{IsSameArea, LieOn, has_side, same_area}
+use Rattle.point_laws.proofs.Follow.{above_same_rows, behind, listed_anew, other_same_rows}
+use Rattle.point_laws.proofs.Levels.{HasLevel, points_kept}
 use Rattle.point_laws.proofs.NodeEdits.{comes_at, in_front}
-use Rattle.point_laws.proofs.Primitive.{above_kind, among_in, among_out, among_same, listing, other_kind, rows_list}
+use Rattle.point_laws.proofs.Primitive.{among_in, among_out, among_same, listing, rows_list}
 
 -- ---- a point of a line is on one of its parts
 either_list : {X : Type 0} (x : X) (xs ys : List X) → Contains (xs ++ ys) x → Contains xs x ⊎ Contains ys x
@@ -174,67 +174,30 @@ split_lineal S e p id id' fs ids u q knows good split new k = (to, from)
             whole (from_on p e.geom c q (subst (IsOnEdge q) (sym is) on)) (replaced id' new.second (subst (λ (y : Edge). IsTrue (is_among y.edge_id (listed_by T u))) (sym is) among)))
             way
 
--- ---- features of faces and of nodes
-sides_same : (l r : ℕ) (xs ys : List ℕ) → ((w : ℕ) → Contains xs w → Contains ys w) → (is_among l xs || is_among r xs) ≡ true → (is_among l ys || is_among r ys) ≡ true
-sides_same l r xs ys h among =
-    ⊎_elim (λ (k : is_among l xs ≡ true). or_left (is_among l ys) (is_among r ys) (among_same l xs ys h k)) (λ (k : is_among r xs ≡ true). or_right (is_among l ys) (is_among r ys) (among_same r xs ys h k)) (or_cases (is_among l xs) (is_among r xs) among)
-
-record SplitArea (S T : Drawing) (e : Edge) (p : Point) (id id' : ℕ) (fs : List Edge) : Type 0 where
-  good : HasPlainLines S
-  split : IsSplitInto S e p id id' fs
-  edges : T.edges ≡ fs
-  faces : T.faces ≡ S.faces
-  same : (g : ℕ) (q : RationalPoint) → is_in_face_at T g q ≡ is_in_face_at S g q
-
-to_split : (S T : Drawing) (e : Edge) (p : Point) (id id' : ℕ) (fs : List Edge) (xs ys : List ℕ) (q : RationalPoint) → IsSubdivided S → SplitArea S T e p id id' fs → ((w : ℕ) → Contains xs w → Contains ys w) → InArea S xs q → InArea T ys q
-to_split S T e p id id' fs xs ys q s h lists (inl (off, (f, (among, inside)))) =
-    inl (λ x cx on. off_part x on (h.split.from x (subst (λ (es : List Edge). Contains es x) h.edges cx)), (f, (among_same f xs ys lists among, same_in S T f q s h.faces (λ g. h.same g q) inside)))
+-- ---- features of faces
+split_area : (S : Drawing) (e : Edge) (p : Point) (id id' : ℕ) (fs : List Edge) (rows : List RelationRow) (next : Counters) → HasPlainLines S → IsSplitInto S e p id id' fs
+    → ((g : ℕ) (q : RationalPoint) → is_in_face_at (split_with S p fs rows next) g q ≡ is_in_face_at S g q) → IsSameArea S (split_with S p fs rows next)
+split_area S e p id id' fs rows next good split same = record { forth = forth; back = λ x q cx on. back x q on (split.from x cx); faces = refl; parity = same }
   where
-    off_part : (x : Edge) → IsOnEdge q x → (Contains S.edges x × (x.edge_id ≢ e.edge_id)) ⊎ ((first_part e S.next_ids.node p id ≡ x) ⊎ (second_part e S.next_ids.node p id' ≡ x)) → ⊥
-    off_part x on (inl old) = off x old.0 on
-    off_part x on (inr (inl is)) = off e h.split.there (up_to_on p e.geom (cut p e.geom h.split.on) q (subst (IsOnEdge q) (sym is) on))
-    off_part x on (inr (inr is)) = off e h.split.there (from_on p e.geom (cut p e.geom h.split.on) q (subst (IsOnEdge q) (sym is) on))
-to_split S T e p id id' fs xs ys q s h lists (inr (x, (cx, sides, on))) = ⊎_elim own other (edge_or_not S e x h.good h.split.there cx)
-  where
-    there : (z : Edge) → Contains fs z → Contains T.edges z
-    there z c = subst (λ (es : List Edge). Contains es z) (sym h.edges) c
+    c : Cut p e.geom
+    c = cut p e.geom split.on
 
-    other : (x.edge_id ≡ e.edge_id → ⊥) → InArea T ys q
-    other far = inr (x, (there x (h.split.old x cx far), sides_same x.left_face x.right_face xs ys lists sides, on))
-
-    own : x ≡ e → InArea T ys q
-    own is =
-        let sides_of_e : (is_among e.left_face ys || is_among e.right_face ys) ≡ true = sides_same e.left_face e.right_face xs ys lists (subst (λ (z : Edge). (is_among z.left_face xs || is_among z.right_face xs) ≡ true) is sides) in
-        ⊎_elim
-        (λ (l : IsOnLine q (line_up_to p e.geom)). inr (first_part e S.next_ids.node p id, (there (first_part e S.next_ids.node p id) h.split.first, sides_of_e, l)))
-        (λ (r : IsOnLine q (line_from p e.geom)). inr (second_part e S.next_ids.node p id', (there (second_part e S.next_ids.node p id') h.split.second, sides_of_e, r)))
-        (on_parts p e.geom q (cut p e.geom h.split.on) (h.good.plain.fit e h.split.there).proper (subst (IsOnEdge q) is on))
-
-from_split : (S T : Drawing) (e : Edge) (p : Point) (id id' : ℕ) (fs : List Edge) (xs ys : List ℕ) (q : RationalPoint) → IsSubdivided T → SplitArea S T e p id id' fs → ((w : ℕ) → Contains ys w → Contains xs w) → InArea T ys q → InArea S xs q
-from_split S T e p id id' fs xs ys q t h lists (inl (off, (f, (among, inside)))) =
-    inl (off_old, (f, (among_same f ys xs lists among, same_in T S f q t (sym h.faces) (λ g. sym (h.same g q)) inside)))
-  where
-    there : (z : Edge) → Contains fs z → Contains T.edges z
-    there z c = subst (λ (es : List Edge). Contains es z) (sym h.edges) c
-
-    off_old : (x : Edge) → Contains S.edges x → IsOnEdge q x → ⊥
-    off_old x cx on =
+    forth : LieOn S (split_with S p fs rows next)
+    forth x q cx on =
         ⊎_elim
         (λ (is : x ≡ e).
         ⊎_elim
-        (λ (l : IsOnLine q (line_up_to p e.geom)). off (first_part e S.next_ids.node p id) (there (first_part e S.next_ids.node p id) h.split.first) l)
-        (λ (r : IsOnLine q (line_from p e.geom)). off (second_part e S.next_ids.node p id') (there (second_part e S.next_ids.node p id') h.split.second) r)
-        (on_parts p e.geom q (cut p e.geom h.split.on) (h.good.plain.fit e h.split.there).proper (subst (IsOnEdge q) is on)))
-        (λ (far : x.edge_id ≡ e.edge_id → ⊥). off x (there x (h.split.old x cx far)) on)
-        (edge_or_not S e x h.good h.split.there cx)
-from_split S T e p id id' fs xs ys q t h lists (inr (x, (cx, sides, on))) = by (h.split.from x (subst (λ (es : List Edge). Contains es x) h.edges cx))
-  where
-    by : (Contains S.edges x × (x.edge_id ≢ e.edge_id)) ⊎ ((first_part e S.next_ids.node p id ≡ x) ⊎ (second_part e S.next_ids.node p id' ≡ x)) → InArea S xs q
-    by (inl old) = inr (x, (old.0, sides_same x.left_face x.right_face ys xs lists sides, on))
-    by (inr (inl is)) =
-        inr (e, (h.split.there, sides_same e.left_face e.right_face ys xs lists (subst (λ (z : Edge). (is_among z.left_face ys || is_among z.right_face ys) ≡ true) (sym is) sides), up_to_on p e.geom (cut p e.geom h.split.on) q (subst (IsOnEdge q) (sym is) on)))
-    by (inr (inr is)) =
-        inr (e, (h.split.there, sides_same e.left_face e.right_face ys xs lists (subst (λ (z : Edge). (is_among z.left_face ys || is_among z.right_face ys) ≡ true) (sym is) sides), from_on p e.geom (cut p e.geom h.split.on) q (subst (IsOnEdge q) (sym is) on)))
+        (λ (l : IsOnLine q (line_up_to p e.geom)). (first_part e S.next_ids.node p id, (split.first, l, λ ids. ap (λ z. has_side z ids) is)))
+        (λ (r : IsOnLine q (line_from p e.geom)). (second_part e S.next_ids.node p id', (split.second, r, λ ids. ap (λ z. has_side z ids) is)))
+        (on_parts p e.geom q c (good.plain.fit e split.there).proper (subst (IsOnEdge q) is on)))
+        (λ (far : x.edge_id ≡ e.edge_id → ⊥). (x, (split.old x cx far, on, λ ids. refl)))
+        (edge_or_not S e x good split.there cx)
+
+    back : (x : Edge) (q : RationalPoint) → IsOnEdge q x → (Contains S.edges x × (x.edge_id ≢ e.edge_id)) ⊎ ((first_part e S.next_ids.node p id ≡ x) ⊎ (second_part e S.next_ids.node p id' ≡ x))
+        → (y : Edge) × (Contains S.edges y × IsOnEdge q y × ((ids : List ℕ) → has_side x ids ≡ has_side y ids))
+    back x q on (inl old) = (x, (old.0, on, λ ids. refl))
+    back x q on (inr (inl is)) = (e, (split.there, up_to_on p e.geom c q (subst (IsOnEdge q) (sym is) on), λ ids. ap (λ z. has_side z ids) (sym is)))
+    back x q on (inr (inr is)) = (e, (split.there, from_on p e.geom c q (subst (IsOnEdge q) (sym is) on), λ ids. ap (λ z. has_side z ids) (sym is)))
 
 -- ---- both kinds of split
 parts_keep : (S : Drawing) (e : Edge) (p : Point) (id id' : ℕ) (fs : List Edge) (next : Counters) → IsTold S → IsSplitInto S e p id id' fs → AreNewIds S e id id'
@@ -247,7 +210,7 @@ parts_keep S e p id id' fs next h split new same later t before still =
       features = λ u row f _. f;
       layers = λ n row f. f;
       down = λ kind n u v k own c. tt;
-      rows = λ kind n u v k own. listed_same S edge_type (e.edge_id ∷ []) (id ∷ id' ∷ []) u v (λ r c of. above_kind S edge_type r (is_among r.element_id (e.edge_id ∷ [])) (above_rows S kind n u h.rows k r c of));
+      rows = λ kind n u v k own. above_same_rows S edge_type (e.edge_id ∷ []) (id ∷ id' ∷ []) kind n u v h.rows k;
       base = λ kind u q k own. by kind u q k;
     })
     (λ n. tt) before still
@@ -258,12 +221,8 @@ parts_keep S e p id id' fs next h split new same later t before still =
     good : HasPlainLines S
     good = has_plain_lines S h.before.covered.ringed.rings
 
-    area : SplitArea S T e p id id' fs
-    area = record { good = good; split = split; edges = refl; faces = refl; same = same }
-
     unfollowed : (kind : Kind) (u : ℕ) → HasLevel S kind zero u → (kind_number kind == edge_type) ≡ false → (v : ℕ) → Contains (listed_by S u) v ↔ Contains (listed_by T u) v
-    unfollowed kind u k differ v =
-        listed_same S edge_type (e.edge_id ∷ []) (id ∷ id' ∷ []) u v (λ r c of. other_kind S (kind_number kind) edge_type r (is_among r.element_id (e.edge_id ∷ [])) differ (rows_list S kind u h.rows k r c of))
+    unfollowed kind u k differ v = other_same_rows S edge_type (e.edge_id ∷ []) (id ∷ id' ∷ []) kind u v h.rows differ k
 
     nodes : (u : ℕ) (q : RationalPoint) → HasLevel S Puntal zero u → AtNodes S (listed_by S u) q ↔ AtNodes T (listed_by T u) q
     nodes u q k =
@@ -277,10 +236,7 @@ parts_keep S e p id id' fs next h split new same later t before still =
     by Puntal u q k = nodes u q k
     by Lineal u q k = split_lineal S e p id id' fs next u q h.rows good split new k
     by Areal u q k =
-        let lists = unfollowed Areal u k refl in (
-          λ r. area_to T (listed_by T u) q later (to_split S T e p id id' fs (listed_by S u) (listed_by T u) q h.before area (λ v. (lists v).0) (area_from S (listed_by S u) q h.before r)),
-          λ r. area_to S (listed_by S u) q h.before (from_split S T e p id id' fs (listed_by S u) (listed_by T u) q later area (λ v. (lists v).1) (area_from T (listed_by T u) q later r)),
-        )
+        same_area S T (listed_by S u) (listed_by T u) q h.before later (split_area S e p id id' fs (follow S edge_type (e.edge_id ∷ []) (id ∷ id' ∷ [])) next good split same) (unfollowed Areal u k refl)
 
 -- the next ids are no old edge's
 fresh_id : (S : Drawing) (e : Edge) (k : ℕ) → InOrder edge_id_of 1 S.next_ids.edge S.edges → (x : Edge) → Contains S.edges x → x.edge_id ≡ S.next_ids.edge + k → x.edge_id ≡ e.edge_id
