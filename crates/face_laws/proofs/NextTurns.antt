@@ -45,11 +45,11 @@ IsFirstOf h n = slice_get (segments_of h.points) 0 ≡ Some n
 
 -- ---- what leaves a node
 -- a step that begins where h begins is the first of a half-edge that leaves the same node
-record LeavesToo (S : Drawing) (h x : HalfEdge) (r : Segment) : Type 0 where
-  first : IsFirstOf x r
-  node : x.from_node ≡ h.from_node
+pub record LeavesToo (S : Drawing) (h x : HalfEdge) (r : Segment) : Type 0 where
+  pub first : IsFirstOf x r
+  pub node : x.from_node ≡ h.from_node
 
-leaves_too : (S : Drawing) (h x : HalfEdge) (r : Segment) → HasPlainLines S → Contains (half_edges S) h → Contains (half_edges S) x → In r (steps_along x) → r.a ≡ first_vertex h.points → LeavesToo S h x r
+pub leaves_too : (S : Drawing) (h x : HalfEdge) (r : Segment) → HasPlainLines S → Contains (half_edges S) h → Contains (half_edges S) x → In r (steps_along x) → r.a ≡ first_vertex h.points → LeavesToo S h x r
 leaves_too S h x r good ch cx i e = by_node (line_of S h good (half_of S.edges h ch)).starts
   where
     by_node : (n : NodeRow) × (Contains S.nodes n × ((n.node_id ≡ h.from_node) × SameCoordinates n.geom (first_vertex h.points))) → LeavesToo S h x r

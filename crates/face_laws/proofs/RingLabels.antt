@@ -64,7 +64,7 @@ in_own_ring S h = begins h (length (half_edges S))
         by_test false = contains_here h (walk (half_edges S) first n (next_of (half_edges S) h))
 
 -- the test of a ring's half-edges
-has_half : (S : Drawing) (h k : HalfEdge) → HasRings S → Contains (half_edges S) h → Contains (half_edges S) k → contains_half_edge (ring_of (half_edges S) h) k ≡ true → Contains (ring_of (half_edges S) h) k
+pub has_half : (S : Drawing) (h k : HalfEdge) → HasRings S → Contains (half_edges S) h → Contains (half_edges S) k → contains_half_edge (ring_of (half_edges S) h) k ≡ true → Contains (ring_of (half_edges S) h) k
 has_half S h k has ch ck e =
     let (m, (c, same)) = (Decides-any (same_half_edge k) (λ m. same_half_edge k m ≡ true) (λ m. (λ t. t, λ t. t)) (ring_of (half_edges S) h)).0 e in
     subst (Contains (ring_of (half_edges S) h))

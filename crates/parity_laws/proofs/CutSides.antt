@@ -13,7 +13,7 @@ use Rattle.parity_laws.proofs.Orbits.{label_even}
 use Rattle.parity_laws.proofs.Whole.{IsCut, whole, begin_of, end_of, no_vertex, begin_start, begin_there, end_there, part_is, whole_begin, whole_end, whole_there, those_cut}
 use Rattle.parity_laws.proofs.CutNext.{begin_along, parts_next}
 
-left_along : (X : List Segment) (s t : Segment) → s.a ≡ t.a → Along (direction s) (direction t) → left X s ≡ left X t
+pub left_along : (X : List Segment) (s t : Segment) → s.a ≡ t.a → Along (direction s) (direction t) → left X s ≡ left X t
 left_along X s t e h = ap (λ p. xor (above X p) (turned X p (direction s))) e ∙ ap (xor (above X t.a)) (turned_along X t.a (direction s) (direction t) h)
 
 pub begin_left : (T : List Segment) (d : Segment) (m : Point) → IsCut T d m → (X : List Segment) (t : Segment) → In t T → left (cut d m X) (begin_of d m t) ≡ left X t

@@ -204,6 +204,42 @@ divided_shells T F G f a b e p q drawn labels d nf na nb rest = (
         inr (x.1, (λ m. false_from_ne_true (left (those p T) e) (λ n. both_ways (left (those q T) (back e)) (k.0 n) m)), λ r s h g. k.1 r s (turned T F f (back e) e r h) (turned T F f (back e) e s g)))
         rest
 
+-- and its two rings aren't both holes
+pub one_is_shell : (T : List Segment) (F G : Segment → ℕ) (f a b : ℕ) (e : Segment) (p q : Segment → Bool) → Drawn T → Divides T F G f a b e p q → OneShell T G a → OneShell T G b → RestOfFace T F f e p q →
+    left (those p T) e ≡ false → left (those q T) (back e) ≡ true
+one_is_shell T F G f a b e p q drawn d one_a one_b rest hole = by_value (left (those q T) (back e)) refl
+  where
+    first : IsPart T G a p e
+    first = first_is_part T F G f a b e p q drawn d
+
+    second : IsPart T G b q (back e)
+    second = second_is_part T F G f a b e p q drawn d
+
+    -- a shell of the first part is one that the face had, and so is one of the second
+    other_a : IsOtherShell T F f e (back e) one_a.p
+    other_a = record {
+      shell = shell_moved T G F a f one_a.p (λ t i g. part_before T F G f a b e p q d t i (inl g)) one_a.shell;
+      not_first = false_from_ne_true (one_a.p e) (λ m. both_ways (left (those p T) e) hole (is_that_shell T G a one_a.p p e drawn one_a.shell first.ring first.there m first.mine));
+      not_second = keeps_off T G a b q one_a.p (back e) second d.differ one_a.shell;
+    }
+
+    other_b : left (those q T) (back e) ≡ false → IsOtherShell T F f e (back e) one_b.p
+    other_b m = record {
+      shell = shell_moved T G F b f one_b.p (λ t i g. part_before T F G f a b e p q d t i (inr g)) one_b.shell;
+      not_first = keeps_off T G b a p one_b.p e first (λ k. d.differ (sym k)) one_b.shell;
+      not_second = false_from_ne_true (one_b.p (back e)) (λ n. both_ways (left (those q T) (back e)) m (is_that_shell T G b one_b.p q (back e) drawn one_b.shell second.ring second.there n second.mine));
+    }
+
+    by_value : (x : Bool) → left (those q T) (back e) ≡ x → x ≡ true
+    by_value true m = refl
+    by_value false m =
+        ⊎_elim
+        (λ (none : NoOtherShell T F f e (back e)). absurd (none one_a.p other_a))
+        (λ (k : (left (those p T) e ≡ true → left (those q T) (back e) ≡ false) × OneOtherShell T F f e (back e)).
+        let s = one_a.shell.ring in
+        absurd (d.differ (sym one_a.shell.face ∙ shell_face T G b one_b.p (divided_rings T F G f a b e p q drawn d b) one_b.shell s.step s.there (sym (k.1 one_a.p one_b.p other_a (other_b m) s.step s.there) ∙ s.mine))))
+        rest
+
 -- face 0 is divided: the new face has one shell, and face 0 none
 pub outer_divided_shells : (T : List Segment) (F G : Segment → ℕ) (f a b : ℕ) (e : Segment) (p q : Segment → Bool) → Drawn T → Divides T F G f a b e p q → IsOuterPart T p e a b →
     left (those q T) (back e) ≡ not (left (those p T) e) → NoOtherShell T F f e (back e) →

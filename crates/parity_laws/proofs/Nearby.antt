@@ -113,7 +113,7 @@ apart_back d n = by_tests (rightward (direction d)) (rightward (direction (back 
     by_tests true b c e f = inl (rw f)
     by_tests false b c e f = inr (rw f)
 
-apart_along : (u u' w w' : Direction) → Along u u' → Along w w' → Apart u' w' → Apart u w
+pub apart_along : (u u' w w' : Direction) → Along u u' → Along w w' → Apart u' w' → Apart u w
 apart_along u u' w w' h k a =
     ⊎_elim
     (λ (b : before u' w' ≡ true). inl (before_along u u' w h ∙ from_along w w' u' k ∙ b))
@@ -151,7 +151,7 @@ each_cut P d m p (t ∷ X) h = each_append P (parts d m t) (cut d m X) (by_tests
     by_tests false false f g = (h t (inl refl) (f refl) (g refl), tt)
 
 -- ---- parts of d
-on_first : (d : Segment) (m : Point) (r : RationalPoint) → Inner m d → IsOn r (first_part d m) → IsOn r d
+pub on_first : (d : Segment) (m : Point) (r : RationalPoint) → Inner m d → IsOn r (first_part d m) → IsOn r d
 on_first d m r h on =
     let g = first_along d m h in
     record {
@@ -161,7 +161,7 @@ on_first d m r h on =
     }
 
 -- the end of d is not on its first part
-not_beyond : (d : Segment) (m : Point) (r : RationalPoint) → Inner m d → IsOn r (first_part d m) → SamePoint r (rational d.b) → ⊥
+pub not_beyond : (d : Segment) (m : Point) (r : RationalPoint) → Inner m d → IsOn r (first_part d m) → SamePoint r (rational d.b) → ⊥
 not_beyond d m r h on e =
     let ex = squeeze d.a.x m.x d.b.x r.x r.d r.whole on.across e.0 h.across in
     let ey = squeeze d.a.y m.y d.b.y r.y r.d r.whole on.upward e.1 h.upward in

@@ -82,7 +82,7 @@ between_times a x b d c h f =
     turn : (a d c : ℤ) → (a *ℤ d) *ℤ c ≡ (d *ℤ c) *ℤ a
     turn a d c = simp multiplied
 
-inner_larger : (c : ℤ) (d : Segment) (m : RationalPoint) → pos 0 <ℤ c → IsOn m d → (SamePoint m (rational d.a) → ⊥) → (SamePoint m (rational d.b) → ⊥) → Inner (times_point m c) (larger_segment (m.d *ℤ c) d)
+pub inner_larger : (c : ℤ) (d : Segment) (m : RationalPoint) → pos 0 <ℤ c → IsOn m d → (SamePoint m (rational d.a) → ⊥) → (SamePoint m (rational d.b) → ⊥) → Inner (times_point m c) (larger_segment (m.d *ℤ c) d)
 inner_larger c d m h on na nb = record {
   straight = area_times d.a d.b m.x m.y m.d c ∙ ap (λ z. ((m.d *ℤ c) *ℤ c) *ℤ z) on.straight ∙ *ℤ-zero ((m.d *ℤ c) *ℤ c);
   across = between_times d.a.x m.x d.b.x m.d c h on.across;

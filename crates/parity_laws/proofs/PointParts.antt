@@ -12,12 +12,12 @@ use Rattle.parity_laws.proofs.Pointing.{point_view}
 use Rattle.parity_laws.proofs.Dividing.{Divides, IsOuterPart, divided_rings}
 
 -- nothing is above v, or a step of its face has on its left what v has above it
-abbrev FaceView : List Segment → (Segment → ℕ) → ℕ → Point → Type 0
+abbrev pub FaceView : List Segment → (Segment → ℕ) → ℕ → Point → Type 0
 FaceView T F f v =
     ((X : List Segment) → Even X → Within X T → above X v ≡ false)
     ⊎ ((s : Segment) × (In s T × (F s ≡ f) × ((X : List Segment) → Even X → Within X T → left X s ≡ above X v)))
 
-face_view : (T : List Segment) (F : Segment → ℕ) (f : ℕ) (v : Point) → Drawn T → ((g : ℕ) → Ringwise T (of_face F g)) → ((g : ℕ) → g ≢ 0 → Sided T (of_face F g)) → IsInFace T F f v → FaceView T F f v
+pub face_view : (T : List Segment) (F : Segment → ℕ) (f : ℕ) (v : Point) → Drawn T → ((g : ℕ) → Ringwise T (of_face F g)) → ((g : ℕ) → g ≢ 0 → Sided T (of_face F g)) → IsInFace T F f v → FaceView T F f v
 face_view T F f v drawn faces sided h =
     ⊎_elim
     (λ (k : (X : List Segment) → Even X → Within X T → above X v ≡ false). inl k)
@@ -46,7 +46,7 @@ nothing_there T G g v drawn faces none e k n =
     none (those (of_face G k) T) (world T (of_face G k) drawn (faces k)).rings.even (those_within (of_face G k) T) ∙ sym (ne_eqb g k (λ z. n (sym z ∙ e)))
 
 -- with nothing above it, it is in face 0
-in_outer : (T : List Segment) (F : Segment → ℕ) (f : ℕ) (v : Point) → Drawn T → ((g : ℕ) → Ringwise T (of_face F g)) → IsInFace T F f v → ((X : List Segment) → Even X → Within X T → above X v ≡ false) → f ≡ 0
+pub in_outer : (T : List Segment) (F : Segment → ℕ) (f : ℕ) (v : Point) → Drawn T → ((g : ℕ) → Ringwise T (of_face F g)) → IsInFace T F f v → ((X : List Segment) → Even X → Within X T → above X v ≡ false) → f ≡ 0
 in_outer T F f v drawn faces h none = by_zero (eqb f 0) refl
   where
     by_zero : (x : Bool) → eqb f 0 ≡ x → f ≡ 0

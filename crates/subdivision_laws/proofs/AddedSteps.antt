@@ -100,16 +100,14 @@ pub strung_by : (T : List Segment) (d : Segment) (X : List Segment) → ((k : �
 strung_by T d [] each = refl
 strung_by T d (n ∷ X) each = let h = each 0 d n refl refl in (h.0, h.1, strung_by T n X (λ k s t e f. each (suc k) s t e f))
 
-pub line_comes : (S : Drawing) (a b : NodeRow) (p q : Point) (vs : List Point) (f : ℕ) → Adds S a b p q vs f → LineComes (steps_of S) (first_of p q) (rest_of q vs) (last_of p q vs)
-line_comes S a b p q vs f h = record {
-  old = drawn_of S (lines_before S a b p q vs f h);
+-- of plain lines, whatever the faces are
+pub plain_line_comes : (S : Drawing) (a b : NodeRow) (p q : Point) (vs : List Point) (f : ℕ) → HasPlainLines S → HasPlainLines (added S a b p q vs f) → LineComes (steps_of S) (first_of p q) (rest_of q vs) (last_of p q vs)
+plain_line_comes S a b p q vs f before good = record {
+  old = drawn_of S before;
   new = subst Drawn (steps_added S a b (p ∷ q ∷ vs) f) (drawn_of (added S a b p q vs f) good);
   strung = strung_by (with_line (steps_of S) (segments_of (p ∷ q ∷ vs))) (first_of p q) (rest_of q vs) meets;
 }
   where
-    good : HasPlainLines (added S a b p q vs f)
-    good = lines_after S a b p q vs f h
-
     meets : (k : ℕ) (s t : Segment) → slice_get (segments_of (p ∷ q ∷ vs)) k ≡ Some s → slice_get (segments_of (p ∷ q ∷ vs)) (suc k) ≡ Some t → MeetAlone (with_line (steps_of S) (segments_of (p ∷ q ∷ vs))) s t
     meets k s t e g =
         let two : Follows (p ∷ q ∷ vs) k s t = record { first = e; second = g } in
@@ -119,6 +117,9 @@ line_comes S a b p q vs f h = record {
               let m = half_with (added S a b p q vs f) r (subst (In r) (sym (steps_added S a b (p ∷ q ∷ vs) f)) i) in
               inner_starts (added S a b p q vs f) (forward_of (edge_of S a b p q vs f)) m.0 k s t r at m.1.0 m.1.1 j,
         )
+
+pub line_comes : (S : Drawing) (a b : NodeRow) (p q : Point) (vs : List Point) (f : ℕ) → Adds S a b p q vs f → LineComes (steps_of S) (first_of p q) (rest_of q vs) (last_of p q vs)
+line_comes S a b p q vs f h = plain_line_comes S a b p q vs f (lines_before S a b p q vs f h) (lines_after S a b p q vs f h)
 
 -- ---- faces
 pub old_face : (S : Drawing) (a b : NodeRow) (p q : Point) (vs : List Point) (f : ℕ) → Adds S a b p q vs f → (s : Segment) → In s (steps_of S) → face_of (added S a b p q vs f) s ≡ face_of S s

@@ -111,11 +111,11 @@ divides_by T e d G h same = record {
   part_b = λ t i k m. same t i ∙ parted_second (steps_of T) (face_of T) d.face d.left_part d.right_part (start e) (left_label T e) t k m;
 }
 
-abbrev Parted : Drawing → Edge → Division → Segment → ℕ
+abbrev pub Parted : Drawing → Edge → Division → Segment → ℕ
 Parted T e d = parted (steps_of T) (face_of T) d.face d.left_part d.right_part (start e) (left_label T e)
 
 -- each part has a shell, or none
-parts_once : (T : Drawing) (e : Edge) (d : Division) → IsParted T e d → HasOnce (steps_of T) (Parted T e d) d.left_part × HasOnce (steps_of T) (Parted T e d) d.right_part
+pub parts_once : (T : Drawing) (e : Edge) (d : Division) → IsParted T e d → HasOnce (steps_of T) (Parted T e d) d.left_part × HasOnce (steps_of T) (Parted T e d) d.right_part
 parts_once T e d h =
     ⊎_elim
     (λ (k : IsInner T e d).
@@ -167,7 +167,7 @@ least_there h (k ∷ ring) = by_test (comes_before k h) (least_there k ring) (le
         (λ (c : Contains ring (fold earlier_of h ring)). contains_there (fold earlier_of h ring) h (k ∷ ring) (contains_there (fold earlier_of h ring) k ring c))
         (contains_cases (fold earlier_of h ring) h ring off)
 
-least_half : (ring : List HalfEdge) (h : HalfEdge) → Contains ring h → (m : HalfEdge) × (Contains ring m × (least_vertex ring ≡ first_vertex m.points))
+pub least_half : (ring : List HalfEdge) (h : HalfEdge) → Contains ring h → (m : HalfEdge) × (Contains ring m × (least_vertex ring ≡ first_vertex m.points))
 least_half [] h c = absurd (contains_none h c)
 least_half (k ∷ ring) h c = (fold earlier_of k ring, (least_there k ring, refl))
 

@@ -26,7 +26,7 @@ use Rattle.subdivision_laws.proofs.AddedShells.{open_covers}
 use Rattle.subdivision_laws.proofs.RingAdded.{AddsRing, FacesBelow, two_parts, one_part}
 
 -- the drawing with the edge, where it doesn't divide its face yet
-adds : (S : Drawing) (a b : NodeRow) (p q : Point) (vs : List Point) (f : ℕ) → IsCovered S → 2 ≤ length (p ∷ q ∷ vs) → EdgeMayCome S a b (p ∷ q ∷ vs) f → Adds S a b p q vs f
+pub adds : (S : Drawing) (a b : NodeRow) (p q : Point) (vs : List Point) (f : ℕ) → IsCovered S → 2 ≤ length (p ∷ q ∷ vs) → EdgeMayCome S a b (p ∷ q ∷ vs) f → Adds S a b p q vs f
 adds S a b p q vs f c long k =
     let plain = edge_more S a b (p ∷ q ∷ vs) f (has_plain S c.ringed.rings.plain) k.start_there k.end_there k.ends k.simple k.free in
     record {
@@ -43,7 +43,7 @@ edge_comes S a b (p ∷ []) f k long c = absurd (omega (arith, long))
 edge_comes S a b (p ∷ q ∷ vs) f k long c = open_covers S a b p q vs f (adds S a b p q vs f c long k.edge) k.joined
 
 -- ---- the edge closes a ring
-adds_ring : (S : Drawing) (a b : NodeRow) (p q : Point) (vs : List Point) (f : ℕ) → FaceMayBeDivided S a b (p ∷ q ∷ vs) f → 2 ≤ length (p ∷ q ∷ vs) → FacesBelow S → IsCovered S → AddsRing S a b p q vs f
+pub adds_ring : (S : Drawing) (a b : NodeRow) (p q : Point) (vs : List Point) (f : ℕ) → FaceMayBeDivided S a b (p ∷ q ∷ vs) f → 2 ≤ length (p ∷ q ∷ vs) → FacesBelow S → IsCovered S → AddsRing S a b p q vs f
 adds_ring S a b p q vs f k long below c = record {
   adds = adds S a b p q vs f c long k.edge;
   cut = k.cut;

@@ -251,3 +251,9 @@ one_part S a b p q vs f h ringed =
         (λ (c : Contains S.faces s.0). subst (λ z. has_face S z ≡ true) same (any_in (λ x. x == s.0) S.faces s.0 c (eq-eqb s.0 s.0 refl)))
         (λ (e : S.next_ids.face ≡ s.0). absurd (n (sym same ∙ sym e)))
         (Contains-push_cases S.faces S.next_ids.face s.0 s.1.0)
+
+-- the division of its face into one new part and the old one
+pub ring_parted : (S : Drawing) (a b : NodeRow) (p q : Point) (vs : List Point) (f : ℕ) → AddsRing S a b p q vs f →
+    IsParted (added S a b p q vs f) (edge_of S a b p q vs f) (one_new (added S a b p q vs f) f (left_ring S a b (p ∷ q ∷ vs) f) (right_ring S a b (p ∷ q ∷ vs) f))
+ring_parted S a b p q vs f h =
+    one_parted S a b p q vs f (keeps_left f (left_ring S a b (p ∷ q ∷ vs) f)) h (one_kind S a b p q vs f h (f == 0) (is_shell (left_ring S a b (p ∷ q ∷ vs) f)) refl refl)

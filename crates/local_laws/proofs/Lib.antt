@@ -1,0 +1,10 @@
+pub mod Inside
+pub mod WedgeFaces
+pub mod LineFaces
+pub mod LineLaws
+pub mod Dividing
+pub mod OneValue
+pub mod TwoRings
+pub mod Bounds
+pub mod OtherRings
+pub mod RingsOfDivision
