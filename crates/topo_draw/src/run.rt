@@ -45,6 +45,7 @@ fn layer_word(words: &[String]) -> Result<Option<&[u8]>, DrawEnd>
 
 /// The text that the source gives.
 fn text_of<S: Source>(alloc: Global, source: &mut S) -> Result<Vec<u8>, DrawEnd>
+    ensures whole { IfOk result (λ text. IfSome (S.left source.old) (λ bytes. text.items ≡ bytes)) }
     ensures fault { IsErrOf result DrawEnd.Source → Rose (S.faults source.old) (S.faults source.new) }
     ensures too_long { IsErrOf result DrawEnd.TooLong → IfSome (S.left source.old) (λ bytes. MOST < length bytes) }
     ensures words { IsErrOf result DrawEnd.Words → ⊥ }
