@@ -1,0 +1,111 @@
+// The stages of a report.
+ghost use Rattle.std.specs.Prelude.{◌≡◌, ◌<◌};
+
+use crate::counters::{
+    edges_past_next, faces_past_next, features_past_next, layers_past_next, nodes_past_next,
+};
+use crate::layer_lines::{features_without_layer, layer_children, layer_levels, layer_names};
+use crate::lines::Report;
+use crate::link_lines::link_lines;
+use crate::place_lines::place_lines;
+use crate::plain_lines::plain_lines;
+use crate::raw::RawTables;
+use crate::references::{
+    edges_without_face, edges_without_next, edges_without_node, nodes_without_face,
+};
+use crate::relation_lines::{
+    relations_of_universe, relations_of_wrong_kind, relations_without_element,
+    relations_without_feature,
+};
+use crate::ring_lines::ring_lines;
+use crate::stars::next_places;
+use crate::walks::walks_of;
+use std::alloc::Global;
+use std::marker::Brand;
+use std::sync::ledger::{Blank, Ledger};
+use topo_base::{Memory, Steps};
+
+fn past_next(raw: &RawTables, report: &mut Report) -> Result<(), Memory> {
+    nodes_past_next(raw.nodes.rows(), raw.next.node, report)?;
+    edges_past_next(raw.edges.rows(), raw.next.edge, report)?;
+    faces_past_next(raw.faces.rows(), raw.next.face, report)?;
+    layers_past_next(raw.layers.rows(), raw.next.layer, report)?;
+    features_past_next(raw.features.rows(), raw.next.feature, report)
+}
+
+fn drawing_references(raw: &RawTables, report: &mut Report) -> Result<(), Memory> {
+    nodes_without_face(raw.nodes.rows(), &raw.faces, report)?;
+    edges_without_node(raw.edges.rows(), &raw.nodes, report)?;
+    edges_without_face(raw.edges.rows(), &raw.faces, report)?;
+    edges_without_next(&raw.edges, report)
+}
+
+fn layer_references(raw: &RawTables, report: &mut Report) -> Result<(), Memory> {
+    layer_levels(raw.layers.rows(), report)?;
+    layer_children(&raw.layers, report)?;
+    layer_names(raw.layers.rows(), report)?;
+    features_without_layer(raw.features.rows(), &raw.layers, report)
+}
+
+fn relation_references(
+    alloc: Global,
+    raw: &RawTables,
+    report: &mut Report,
+) -> Result<(), Memory> {
+    let rows = raw.relations.rows();
+    relations_without_feature(alloc, rows, &raw.features, report)?;
+    relations_of_wrong_kind(rows, &raw.features, &raw.layers, report)?;
+    relations_of_universe(rows, &raw.features, &raw.layers, report)?;
+    relations_without_element(raw, report)
+}
+
+/// The lines on ids and references.
+fn reference_lines(alloc: Global, raw: &RawTables, report: &mut Report) -> Result<(), Memory> {
+    past_next(raw, report)?;
+    drawing_references(raw, report)?;
+    layer_references(raw, report)?;
+    relation_references(alloc, raw, report)
+}
+
+/// The lines on rings and faces, of tables with right references and plain lines.
+fn face_lines(alloc: Global, raw: &RawTables, report: &mut Report) -> Result<(), Memory> {
+    let edges = raw.edges.rows();
+    let next = next_places(alloc, edges)?;
+    link_lines(alloc, &raw.nodes, edges, &next, report)?;
+    if !report.lines().is_empty() {
+        return Ok(());
+    }
+    let walks = walks_of(alloc, edges, &next)?;
+    ring_lines(alloc, edges, &raw.faces, &next, &walks, report)?;
+    if !report.lines().is_empty() {
+        return Ok(());
+    }
+    place_lines(alloc, edges, raw.nodes.rows(), &raw.faces, &walks, report)
+}
+
+fn counted_report<L: Ledger>(
+    alloc: Global,
+    raw: &RawTables,
+    blank: Blank,
+) -> Result<Report, Memory>
+    requires name { blank.name ≡ L.name }
+    requires parts { blank.parts ≡ L.parts }
+    requires some { 0 < blank.parts }
+{
+    let mut steps = Steps::<L>::new(blank);
+    let mut report = Report::new(alloc);
+    reference_lines(alloc, raw, &mut report)?;
+    if !report.lines().is_empty() {
+        return Ok(report);
+    }
+    plain_lines(alloc, raw, &mut report, &mut steps)?;
+    if report.lines().is_empty() {
+        face_lines(alloc, raw, &mut report)?;
+    }
+    Ok(report)
+}
+
+/// What is wrong with the tables, and where: the lines of the first stage that has any.
+pub fn report(alloc: Global, raw: &RawTables) -> Result<Report, Memory> {
+    counted_report::<Brand>(alloc, raw, Blank::new(1))
+}
