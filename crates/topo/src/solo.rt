@@ -4,6 +4,7 @@ ghost use Rattle.topo.specs.Endings.{Ending, standard};
 ghost use Rattle.topo.specs.Statuses.{Means, IsComplete};
 
 use crate::apply::apply;
+use crate::check::check;
 use crate::end::end_with;
 use crate::served::Served;
 use crate::show::show;
@@ -40,6 +41,7 @@ fn solo_counted<S: Source, K: Sink, D: Disk, L: Ledger>(
         None => Served::of(end_with(sink, b"fault words\n", 2), disk),
         Some(Form::Apply) => apply(alloc, source, sink, disk, &mut steps),
         Some(Form::Show(shown)) => show(alloc, shown, sink, disk, &mut steps),
+        Some(Form::Check) => Served::of(check(alloc, source, sink), disk),
     }
 }
 

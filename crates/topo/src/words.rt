@@ -19,6 +19,8 @@ pub enum Form {
     Apply,
     /// Shows something, and changes nothing.
     Show(Shown),
+    /// Reports on a dump. It has no journal.
+    Check,
 }
 
 /// Whether the word names a journal: it isn't empty and doesn't begin with a minus.
@@ -51,6 +53,13 @@ pub fn form_of(words: &[String]) -> Option<Form>
     ensures none { IfNone result (AreForm (map string_bytes words.now) → ⊥) }
 {
     match words {
+        [verb] => {
+            if verb.as_str() == "check" {
+                Some(Form::Check)
+            } else {
+                None
+            }
+        }
         [verb, journal] => {
             if names_journal(journal) {
                 form_named(verb.as_str())
