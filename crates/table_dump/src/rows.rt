@@ -1,12 +1,10 @@
 // The rows of a dump, from the words behind the first.
-use crate::fields::{
-    dart, kind, line, mbr, name, named_id, next_id, option_id, own_id, point,
-};
+use crate::fields::{dart, kind, line, mbr, name, named_id, next_id, option_id, own_id, point};
 use crate::pieces::Words;
 use std::alloc::Global;
 use topo_base::{
-    Counters, Dart, EdgeId, EdgeRow, FaceId, FaceRow, FeatureId, FeatureRow, LayerId, LayerRow, Memory,
-    NodeId, NodeRow, RelationRow,
+    Counters, Dart, EdgeId, EdgeRow, FaceId, FaceRow, FeatureId, FeatureRow, LayerId, LayerRow,
+    Memory, NodeId, NodeRow, RelationRow,
 };
 
 /// Something that was read, where no word is left behind it.

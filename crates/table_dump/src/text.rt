@@ -1,4 +1,7 @@
 // The lines of a report.
+ghost use Rattle.std.specs.Prelude.{◌≡◌, ◌++◌, ◌∷◌, OnOk, IfOk};
+ghost use Rattle.table_dump.specs.ReportText.{error_word, first_word, named_word, report_line, report_text as text_of_report, second_word};
+
 use edit_words::{push_count_word, push_dart_word, push_word};
 use std::alloc::Global;
 use topo_base::{Dart, Memory, Text};
@@ -8,12 +11,14 @@ use validate_topology::{Report, ReportLine};
 #[derive(Clone, Copy, Debug)]
 enum Named {
     Number(u32),
-    Dart(Dart),
+    Walked(Dart),
     Nothing,
 }
 
 /// The word of an error.
-fn error_word(line: &ReportLine) -> &'static [u8] {
+fn error_word(line: &ReportLine) -> &'static [u8]
+    ensures { result.now ≡ error_word line.now }
+{
     match line {
         ReportLine::NodePastNext { .. } => b"node_past_next",
         ReportLine::EdgePastNext { .. } => b"edge_past_next",
@@ -51,7 +56,9 @@ fn error_word(line: &ReportLine) -> &'static [u8] {
 }
 
 /// What a line names first.
-fn first_named(line: &ReportLine) -> Named {
+fn first_named(line: &ReportLine) -> Named
+    ensures { named_word result ≡ first_word line.now }
+{
     match line {
         ReportLine::NodePastNext { node } => Named::Number(node.0),
         ReportLine::EdgePastNext { edge } => Named::Number(edge.0),
@@ -80,16 +87,18 @@ fn first_named(line: &ReportLine) -> Named {
         ReportLine::NodeIsolatedWithoutFace { node } => Named::Number(node.0),
         ReportLine::NextLeftWrong { edge, .. } => Named::Number(edge.0),
         ReportLine::NextRightWrong { edge, .. } => Named::Number(edge.0),
-        ReportLine::RingSidesDiffer { dart, .. } => Named::Dart(*dart),
+        ReportLine::RingSidesDiffer { dart, .. } => Named::Walked(*dart),
         ReportLine::FaceShells { face, .. } => Named::Number(face.0),
-        ReportLine::HoleInOtherFace { dart, .. } => Named::Dart(*dart),
+        ReportLine::HoleInOtherFace { dart, .. } => Named::Walked(*dart),
         ReportLine::NodeInOtherFace { node, .. } => Named::Number(node.0),
         ReportLine::FaceBoxWrong { face } => Named::Number(face.0),
     }
 }
 
 /// What a line names second.
-fn second_named(line: &ReportLine) -> Named {
+fn second_named(line: &ReportLine) -> Named
+    ensures { named_word result ≡ second_word line.now }
+{
     match line {
         ReportLine::NodePastNext { .. } => Named::Nothing,
         ReportLine::EdgePastNext { .. } => Named::Nothing,
@@ -99,7 +108,7 @@ fn second_named(line: &ReportLine) -> Named {
         ReportLine::NodeWithoutFace { face, .. } => Named::Number(face.0),
         ReportLine::EdgeWithoutNode { node, .. } => Named::Number(node.0),
         ReportLine::EdgeWithoutFace { face, .. } => Named::Number(face.0),
-        ReportLine::EdgeWithoutNext { next, .. } => Named::Dart(*next),
+        ReportLine::EdgeWithoutNext { next, .. } => Named::Walked(*next),
         ReportLine::LayerLevelWrong { .. } => Named::Nothing,
         ReportLine::LayerChildWrong { child, .. } => Named::Number(child.0),
         ReportLine::LayerNameTaken { other, .. } => Named::Number(other.0),
@@ -116,9 +125,9 @@ fn second_named(line: &ReportLine) -> Named {
         ReportLine::EdgeCrossesEdge { other, .. } => Named::Number(other.0),
         ReportLine::NodeJoinedWithFace { face, .. } => Named::Number(face.0),
         ReportLine::NodeIsolatedWithoutFace { .. } => Named::Nothing,
-        ReportLine::NextLeftWrong { next, .. } => Named::Dart(*next),
-        ReportLine::NextRightWrong { next, .. } => Named::Dart(*next),
-        ReportLine::RingSidesDiffer { next, .. } => Named::Dart(*next),
+        ReportLine::NextLeftWrong { next, .. } => Named::Walked(*next),
+        ReportLine::NextRightWrong { next, .. } => Named::Walked(*next),
+        ReportLine::RingSidesDiffer { next, .. } => Named::Walked(*next),
         ReportLine::FaceShells { count, .. } => Named::Number(*count),
         ReportLine::HoleInOtherFace { face, .. } => Named::Number(face.0),
         ReportLine::NodeInOtherFace { face, .. } => Named::Number(face.0),
@@ -126,15 +135,19 @@ fn second_named(line: &ReportLine) -> Named {
     }
 }
 
-fn push_named(text: &mut Text, named: Named) -> Result<(), Memory> {
+fn push_named(text: &mut Text, named: Named) -> Result<(), Memory>
+    ensures { OnOk result (text.new ≡ text.old ++ 32 ∷ named_word named) }
+{
     match named {
         Named::Number(n) => push_count_word(text, u64::from(n)),
-        Named::Dart(dart) => push_dart_word(text, dart),
+        Named::Walked(dart) => push_dart_word(text, dart),
         Named::Nothing => push_word(text, b"-"),
     }
 }
 
-fn push_line(text: &mut Text, line: &ReportLine) -> Result<(), Memory> {
+fn push_line(text: &mut Text, line: &ReportLine) -> Result<(), Memory>
+    ensures { OnOk result (text.new ≡ text.old ++ report_line line.now) }
+{
     text.push_bytes(error_word(line))?;
     push_named(text, first_named(line))?;
     push_named(text, second_named(line))?;
@@ -142,7 +155,9 @@ fn push_line(text: &mut Text, line: &ReportLine) -> Result<(), Memory> {
 }
 
 /// The lines of a report: an error, and what it names, `-` where that is nothing.
-pub fn report_text(alloc: Global, report: &Report) -> Result<Text, Memory> {
+pub fn report_text(alloc: Global, report: &Report) -> Result<Text, Memory>
+    ensures { IfOk result (λ t. t ≡ text_of_report report.now) }
+{
     let mut text = Text::new(alloc);
     for line in report.lines() {
         push_line(&mut text, line)?;

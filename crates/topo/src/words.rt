@@ -1,5 +1,5 @@
-ghost use Rattle.std.specs.Prelude.{◌≡◌, ◌∷◌, [], map, string_bytes, IfSome, IfNone};
-ghost use Rattle.topo.specs.Words.{IsForm, AreForm, names_journal, verb_of};
+ghost use Rattle.std.specs.Prelude.{◌≡◌, ◌↔◌, ◌∷◌, [], map, string_bytes, IfSome, IfNone, IsTrue};
+ghost use Rattle.topo.specs.Words.{IsCheck, IsForm, AreForm, names_journal, verb_of};
 
 /// What a form shows of a journal.
 #[derive(Clone, Copy, Debug, PartialEq, Eq)]
@@ -19,8 +19,6 @@ pub enum Form {
     Apply,
     /// Shows something, and changes nothing.
     Show(Shown),
-    /// Reports on a dump. It has no journal.
-    Check,
 }
 
 /// Whether the word names a journal: it isn't empty and doesn't begin with a minus.
@@ -53,13 +51,6 @@ pub fn form_of(words: &[String]) -> Option<Form>
     ensures none { IfNone result (AreForm (map string_bytes words.now) → ⊥) }
 {
     match words {
-        [verb] => {
-            if verb.as_str() == "check" {
-                Some(Form::Check)
-            } else {
-                None
-            }
-        }
         [verb, journal] => {
             if names_journal(journal) {
                 form_named(verb.as_str())
@@ -79,5 +70,15 @@ pub fn journal_word(words: &[String]) -> Option<&String>
     match form_of(words) {
         Some(_) => words.get(1),
         None => None,
+    }
+}
+
+/// Whether the words are the one that asks for a report on a dump.
+pub fn is_check(words: &[String]) -> bool
+    ensures { IsTrue result ↔ IsCheck (map string_bytes words.now) }
+{
+    match words {
+        [verb] => verb.as_str() == "check",
+        _ => false,
     }
 }

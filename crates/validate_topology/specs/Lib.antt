@@ -1,1 +1,4 @@
 pub mod Ascending
+pub mod Following
+pub mod OnlyIf
+pub mod References

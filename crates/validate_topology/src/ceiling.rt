@@ -1,4 +1,7 @@
 // Segments as what is above a point.
+ghost use Rattle.std.specs.Prelude.{◌≡◌, ◌^◌, ◌-ℤ◌};
+ghost use Rattle.topo_base.specs.Within.{IsWithin};
+
 use topo_base::{EdgeRow, FaceId, Grid, Memory, cross_product};
 
 /// A segment that goes from left to right, and the face on its lower side.
@@ -30,63 +33,76 @@ fn ceiling_of(from: Grid, to: Grid, left_face: FaceId, right_face: FaceId) -> Op
 
 /// The segments of an edge.
 pub fn push_ceilings(ceilings: &mut Vec<Ceiling>, row: &EdgeRow) -> Result<(), Memory> {
-    let mut rest = row.geom.vertices();
-    while let [from, others @ ..] = rest {
-        if let [to, ..] = others {
-            if let Some(ceiling) = ceiling_of(*from, *to, row.left_face, row.right_face) {
-                ceilings.push(ceiling)?;
-            }
+    let vertices = row.geom.vertices();
+    let (left, right) = (row.left_face, row.right_face);
+    for index in 0..vertices.len() - 1 {
+        if let Some(ceiling) = ceiling_of(vertices[index], vertices[index + 1], left, right) {
+            ceilings.push(ceiling)?;
         }
-        rest = others;
     }
     Ok(())
 }
 
 /// How far `to` is to the right of `from`.
-fn across(from: Grid, to: Grid) -> i64 {
+fn across(from: &Grid, to: &Grid) -> i64
+    ensures value { result ≡ to.now.x -ℤ from.now.x }
+    ensures within { IsWithin (2 ^ 41) result }
+{
     to.x() - from.x()
 }
 
 /// How far `to` is above `from`.
-fn upward(from: Grid, to: Grid) -> i64 {
+fn upward(from: &Grid, to: &Grid) -> i64
+    ensures value { result ≡ to.now.y -ℤ from.now.y }
+    ensures within { IsWithin (2 ^ 41) result }
+{
     to.y() - from.y()
 }
 
-/// How far the segment is above the point, times how far the segment goes to the right.
-fn gap(point: Grid, ceiling: &Ceiling) -> i128 {
-    let (left, right) = (ceiling.left, ceiling.right);
-    cross_product(
-        across(left, point),
-        upward(left, point),
-        across(left, right),
-        upward(left, right),
-    )
+/// How far a segment goes to the right.
+fn run(ceiling: &Ceiling) -> i64
+    ensures { IsWithin (2 ^ 41) result }
+{
+    across(&ceiling.left, &ceiling.right)
+}
+
+/// How far a segment goes up.
+fn rise(ceiling: &Ceiling) -> i64
+    ensures { IsWithin (2 ^ 41) result }
+{
+    upward(&ceiling.left, &ceiling.right)
+}
+
+/// How far the segment is above the point, times its run.
+fn gap(point: &Grid, ceiling: &Ceiling) -> i128
+    ensures { IsWithin (2 ^ 83) result }
+{
+    let (right, up) = (across(&ceiling.left, point), upward(&ceiling.left, point));
+    cross_product(right, up, run(ceiling), rise(ceiling))
 }
 
 /// Whether the segment is above the point: strictly above it, where of its two ends the right one is left out.
-pub fn is_over(point: Grid, ceiling: &Ceiling) -> bool {
+pub fn is_over(point: &Grid, ceiling: &Ceiling) -> bool {
     let is_within = ceiling.left.x() <= point.x() && point.x() < ceiling.right.x();
     is_within && 0 < gap(point, ceiling)
 }
 
 /// A gap times a run.
-fn scaled(gap: i128, run: i64) -> i128 {
+fn scaled(gap: i128, run: i64) -> i128
+    requires gap_in { IsWithin (2 ^ 83) gap }
+    requires run_in { IsWithin (2 ^ 41) run }
+{
     gap * run as i128
 }
 
 /// Whether the first segment has a lesser slope than the second.
 fn is_flatter(one: &Ceiling, other: &Ceiling) -> bool {
-    cross_product(
-        across(other.left, other.right),
-        upward(other.left, other.right),
-        across(one.left, one.right),
-        upward(one.left, one.right),
-    ) < 0
+    cross_product(run(other), rise(other), run(one), rise(one)) < 0
 }
 
 /// Whether of two segments over the point the first is lower there, or as high and of lesser slope.
-pub fn is_lower(point: Grid, one: &Ceiling, other: &Ceiling) -> bool {
-    let first = scaled(gap(point, one), across(other.left, other.right));
-    let second = scaled(gap(point, other), across(one.left, one.right));
+pub fn is_lower(point: &Grid, one: &Ceiling, other: &Ceiling) -> bool {
+    let first = scaled(gap(point, one), run(other));
+    let second = scaled(gap(point, other), run(one));
     first < second || first == second && is_flatter(one, other)
 }

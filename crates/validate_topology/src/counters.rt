@@ -1,8 +1,13 @@
 // The ids that aren't below the next id of their table.
+ghost use Rattle.std.specs.Prelude.{◌≡◌, ◌++◌, OnOk};
+ghost use Rattle.validate_topology.specs.References.{edges_past_next as edges_past, faces_past_next as faces_past, features_past_next as features_past, layers_past_next as layers_past, nodes_past_next as nodes_past};
+
 use crate::lines::{Report, ReportLine};
 use topo_base::{EdgeRow, FaceRow, FeatureRow, LayerRow, Memory, NodeRow};
 
-pub fn nodes_past_next(rows: &[NodeRow], next: u32, report: &mut Report) -> Result<(), Memory> {
+pub fn nodes_past_next(rows: &[NodeRow], next: u32, report: &mut Report) -> Result<(), Memory>
+    ensures { OnOk result (report.new ≡ report.old ++ nodes_past next rows.now) }
+{
     for row in rows {
         let node = row.node_id;
         report.push_if(next <= node.0, ReportLine::NodePastNext { node })?;
@@ -10,7 +15,9 @@ pub fn nodes_past_next(rows: &[NodeRow], next: u32, report: &mut Report) -> Resu
     Ok(())
 }
 
-pub fn edges_past_next(rows: &[EdgeRow], next: u32, report: &mut Report) -> Result<(), Memory> {
+pub fn edges_past_next(rows: &[EdgeRow], next: u32, report: &mut Report) -> Result<(), Memory>
+    ensures { OnOk result (report.new ≡ report.old ++ edges_past next rows.now) }
+{
     for row in rows {
         let edge = row.edge_id;
         report.push_if(next <= edge.0, ReportLine::EdgePastNext { edge })?;
@@ -18,7 +25,9 @@ pub fn edges_past_next(rows: &[EdgeRow], next: u32, report: &mut Report) -> Resu
     Ok(())
 }
 
-pub fn faces_past_next(rows: &[FaceRow], next: u32, report: &mut Report) -> Result<(), Memory> {
+pub fn faces_past_next(rows: &[FaceRow], next: u32, report: &mut Report) -> Result<(), Memory>
+    ensures { OnOk result (report.new ≡ report.old ++ faces_past next rows.now) }
+{
     for row in rows {
         let face = row.face_id;
         report.push_if(next <= face.0, ReportLine::FacePastNext { face })?;
@@ -26,7 +35,9 @@ pub fn faces_past_next(rows: &[FaceRow], next: u32, report: &mut Report) -> Resu
     Ok(())
 }
 
-pub fn layers_past_next(rows: &[LayerRow], next: u32, report: &mut Report) -> Result<(), Memory> {
+pub fn layers_past_next(rows: &[LayerRow], next: u32, report: &mut Report) -> Result<(), Memory>
+    ensures { OnOk result (report.new ≡ report.old ++ layers_past next rows.now) }
+{
     for row in rows {
         let layer = row.layer_id;
         report.push_if(next <= layer.0, ReportLine::LayerPastNext { layer })?;
@@ -34,11 +45,9 @@ pub fn layers_past_next(rows: &[LayerRow], next: u32, report: &mut Report) -> Re
     Ok(())
 }
 
-pub fn features_past_next(
-    rows: &[FeatureRow],
-    next: u32,
-    report: &mut Report,
-) -> Result<(), Memory> {
+pub fn features_past_next(rows: &[FeatureRow], next: u32, report: &mut Report) -> Result<(), Memory>
+    ensures { OnOk result (report.new ≡ report.old ++ features_past next rows.now) }
+{
     for row in rows {
         let feature = row.feature_id;
         report.push_if(next <= feature.0, ReportLine::FeaturePastNext { feature })?;

@@ -1,12 +1,17 @@
 // What is wrong with containing faces and links.
-use crate::darts::dart_at;
+ghost use Rattle.std.specs.Prelude.{◌≡◌, length, IfOk, vec_len};
+
 use crate::lines::{Report, ReportLine};
+use crate::sides::{Side, dart_of, link_of};
+use crate::stars::Followers;
 use crate::table::Rows;
 use std::alloc::Global;
 use topo_base::{EdgeRow, Memory, NodeId, NodeRow, is_same_dart};
 
 /// Marks the place of a node.
-fn mark(nodes: &Rows<NodeRow>, node: NodeId, joined: &mut [bool]) {
+fn mark(nodes: &Rows<NodeRow>, node: NodeId, joined: &mut [bool])
+    requires { length joined.old ≡ length nodes.now }
+{
     if let Some(place) = nodes.place_of(node.0) {
         joined[place] = true;
     }
@@ -53,30 +58,33 @@ fn nodes_isolated_without_face(
     Ok(())
 }
 
-fn next_left_wrong(
-    edges: &[EdgeRow],
-    next_places: &[usize],
-    report: &mut Report,
-) -> Result<(), Memory> {
-    for (index, row) in edges.iter().enumerate() {
-        let edge = row.edge_id;
-        let next = dart_at(edges, next_places[2 * index]);
-        let wrong = !is_same_dart(&row.next_left_edge, &next);
-        report.push_if(wrong, ReportLine::NextLeftWrong { edge, next })?;
+/// The line of a link that isn't the dart that is next.
+fn link_line(side: &Side<'_>, on: &Side<'_>) -> Option<ReportLine> {
+    let (edge, next) = (side.row.edge_id, dart_of(on));
+    if is_same_dart(&link_of(side), &next) {
+        None
+    } else if side.is_forward {
+        Some(ReportLine::NextLeftWrong { edge, next })
+    } else {
+        Some(ReportLine::NextRightWrong { edge, next })
     }
-    Ok(())
 }
 
-fn next_right_wrong(
-    edges: &[EdgeRow],
-    next_places: &[usize],
+/// The lines of the links of the darts that are walked in this direction.
+fn links_wrong(
+    sides: &[Side<'_>],
+    followers: &Followers,
+    is_forward: bool,
     report: &mut Report,
-) -> Result<(), Memory> {
-    for (index, row) in edges.iter().enumerate() {
-        let edge = row.edge_id;
-        let next = dart_at(edges, next_places[2 * index + 1]);
-        let wrong = !is_same_dart(&row.next_right_edge, &next);
-        report.push_if(wrong, ReportLine::NextRightWrong { edge, next })?;
+) -> Result<(), Memory>
+    requires { length followers.now ≡ length sides.now }
+{
+    for place in 0..sides.len() {
+        if sides[place].is_forward == is_forward
+            && let Some(line) = link_line(&sides[place], &sides[followers.next(place)])
+        {
+            report.push(line)?;
+        }
     }
     Ok(())
 }
@@ -86,12 +94,15 @@ pub fn link_lines(
     alloc: Global,
     nodes: &Rows<NodeRow>,
     edges: &[EdgeRow],
-    next_places: &[usize],
+    sides: &[Side<'_>],
+    followers: &Followers,
     report: &mut Report,
-) -> Result<(), Memory> {
+) -> Result<(), Memory>
+    requires { length followers.now ≡ length sides.now }
+{
     let joined = joined_nodes(alloc, nodes, edges)?;
     nodes_joined_with_face(nodes.rows(), &joined, report)?;
     nodes_isolated_without_face(nodes.rows(), &joined, report)?;
-    next_left_wrong(edges, next_places, report)?;
-    next_right_wrong(edges, next_places, report)
+    links_wrong(sides, followers, true, report)?;
+    links_wrong(sides, followers, false, report)
 }

@@ -1,17 +1,24 @@
 // Nodes and the segments of edges as pieces of the plane, from left to right.
-use crate::raw::RawTables;
+use grid_lines::{first_of, last_of};
 use std::alloc::Global;
-use topo_base::{Grid, Memory};
+use topo_base::{EdgeId, EdgeRow, Grid, Memory, NodeId, NodeRow};
 
-/// Whose a piece is: a node's or an edge's, by its place in the table.
-#[derive(Clone, Copy, Debug, PartialEq, Eq)]
+/// The first vertex of a line and the last.
+#[derive(Clone, Copy)]
+pub struct Ends {
+    pub first: Grid,
+    pub last: Grid,
+}
+
+/// Whose a piece is: a node's, or an edge's, whose line has these ends.
+#[derive(Clone, Copy)]
 pub enum Owner {
-    Node(usize),
-    Edge(usize),
+    Node(NodeId),
+    Edge(EdgeId, Ends),
 }
 
 /// The point of a node, as a way from it to itself, or a segment of an edge.
-#[derive(Clone, Copy, Debug)]
+#[derive(Clone, Copy)]
 pub struct Piece {
     pub from: Grid,
     pub to: Grid,
@@ -42,34 +49,52 @@ impl Piece {
     }
 }
 
-fn push_line(pieces: &mut Vec<Piece>, vertices: &[Grid], owner: Owner) -> Result<(), Memory> {
-    let mut rest = vertices;
-    while let [from, others @ ..] = rest {
-        if let [to, ..] = others {
-            pieces.push(Piece {
-                from: *from,
-                to: *to,
-                owner,
-            })?;
-        }
-        rest = others;
+/// The segments of an edge.
+fn push_edge(pieces: &mut Vec<Piece>, row: &EdgeRow) -> Result<(), Memory> {
+    let vertices = row.geom.vertices();
+    for index in 0..vertices.len() - 1 {
+        pieces.push(Piece {
+            from: vertices[index],
+            to: vertices[index + 1],
+            owner: Owner::Edge(
+                row.edge_id,
+                Ends {
+                    first: first_of(&row.geom),
+                    last: last_of(&row.geom),
+                },
+            ),
+        })?;
+    }
+    Ok(())
+}
+
+fn push_nodes(pieces: &mut Vec<Piece>, rows: &[NodeRow]) -> Result<(), Memory> {
+    for row in rows {
+        pieces.push(Piece {
+            from: row.geom,
+            to: row.geom,
+            owner: Owner::Node(row.node_id),
+        })?;
+    }
+    Ok(())
+}
+
+fn push_edges(pieces: &mut Vec<Piece>, rows: &[EdgeRow]) -> Result<(), Memory> {
+    for row in rows {
+        push_edge(pieces, row)?;
     }
     Ok(())
 }
 
 /// All nodes and all segments of edges, by how far to the right they begin.
-pub fn pieces_of(alloc: Global, raw: &RawTables) -> Result<Vec<Piece>, Memory> {
+pub fn pieces_of(
+    alloc: Global,
+    nodes: &[NodeRow],
+    edges: &[EdgeRow],
+) -> Result<Vec<Piece>, Memory> {
     let mut pieces = Vec::new(alloc);
-    for (place, node) in raw.nodes.rows().iter().enumerate() {
-        pieces.push(Piece {
-            from: node.geom,
-            to: node.geom,
-            owner: Owner::Node(place),
-        })?;
-    }
-    for (place, edge) in raw.edges.rows().iter().enumerate() {
-        push_line(&mut pieces, edge.geom.vertices(), Owner::Edge(place))?;
-    }
+    push_nodes(&mut pieces, nodes)?;
+    push_edges(&mut pieces, edges)?;
     pieces.sort_unstable_by_key(|piece| piece.left());
     Ok(pieces)
 }

@@ -1,41 +1,45 @@
 // What lies in another face than the tables say, and boxes.
+ghost use Rattle.std.specs.Prelude.{◌≡◌, length};
+
 use crate::above::faces_above;
-use crate::darts::{dart_at, left_of, twin};
 use crate::lines::{Report, ReportLine};
+use crate::sides::{dart_of, left_of};
 use crate::table::Rows;
 use crate::walks::Walk;
 use std::alloc::Global;
-use topo_base::{Box4, EdgeRow, FaceId, FaceRow, Grid, Memory, NodeRow};
+use topo_base::{Box4, Dart, EdgeRow, FaceId, FaceRow, Grid, Memory, NodeRow};
 
-/// A ring that is a hole: the place of its least dart, and its top vertex.
-#[derive(Clone, Copy, Debug)]
+/// A ring that is a hole: its least dart, its face and its top vertex.
+#[derive(Clone, Copy)]
 struct Hole {
-    dart: usize,
+    dart: Dart,
+    face: FaceId,
     top: Grid,
 }
 
 /// Puts a ring behind others, where it is a hole and its least dart is walked in this direction.
-fn push_hole(holes: &mut Vec<Hole>, walk: &Walk, is_forward: bool) -> Result<(), Memory> {
-    if let Some(dart) = walk.darts.first() {
-        let dart = *dart;
-        if !walk.is_shell && (dart < twin(dart)) == is_forward {
-            holes.push(Hole {
-                dart,
-                top: walk.top,
-            })?;
-        }
+fn push_hole(holes: &mut Vec<Hole>, walk: &Walk<'_>, is_forward: bool) -> Result<(), Memory> {
+    if let Some(side) = walk.sides.first()
+        && !walk.is_shell
+        && side.is_forward == is_forward
+    {
+        holes.push(Hole {
+            dart: dart_of(side),
+            face: left_of(side),
+            top: walk.top,
+        })?;
     }
     Ok(())
 }
 
-fn push_backward(holes: &mut Vec<Hole>, walks: &[Walk]) -> Result<(), Memory> {
-    for walk in walks.iter().rev() {
-        push_hole(holes, walk, false)?;
+fn push_backward(holes: &mut Vec<Hole>, walks: &[Walk<'_>]) -> Result<(), Memory> {
+    for index in (0..walks.len()).rev() {
+        push_hole(holes, &walks[index], false)?;
     }
     Ok(())
 }
 
-fn push_forward(holes: &mut Vec<Hole>, walks: &[Walk]) -> Result<(), Memory> {
+fn push_forward(holes: &mut Vec<Hole>, walks: &[Walk<'_>]) -> Result<(), Memory> {
     for walk in walks {
         push_hole(holes, walk, true)?;
     }
@@ -43,7 +47,7 @@ fn push_forward(holes: &mut Vec<Hole>, walks: &[Walk]) -> Result<(), Memory> {
 }
 
 /// The holes, by the signed numbers of their least darts.
-fn holes_of(alloc: Global, walks: &[Walk]) -> Result<Vec<Hole>, Memory> {
+fn holes_of(alloc: Global, walks: &[Walk<'_>]) -> Result<Vec<Hole>, Memory> {
     let mut holes = Vec::new(alloc);
     push_backward(&mut holes, walks)?;
     push_forward(&mut holes, walks)?;
@@ -61,7 +65,7 @@ fn tops_of(alloc: Global, holes: &[Hole]) -> Result<Vec<Grid>, Memory> {
 fn holes_in_other_face(
     alloc: Global,
     edges: &[EdgeRow],
-    walks: &[Walk],
+    walks: &[Walk<'_>],
     report: &mut Report,
 ) -> Result<(), Memory> {
     let holes = holes_of(alloc, walks)?;
@@ -69,21 +73,38 @@ fn holes_in_other_face(
     let faces = faces_above(alloc, edges, &tops)?;
     for (hole, face) in holes.iter().zip(&faces) {
         let face = *face;
-        let wrong = left_of(edges, hole.dart).0 != face.0;
-        let dart = dart_at(edges, hole.dart);
+        let (dart, own) = (hole.dart, hole.face);
+        let wrong = own.0 != face.0;
         report.push_if(wrong, ReportLine::HoleInOtherFace { dart, face })?;
     }
     Ok(())
 }
 
-fn points_of(alloc: Global, nodes: &[NodeRow]) -> Result<Vec<Grid>, Memory> {
-    let mut points = Vec::new(alloc);
+/// The isolated nodes: each has a containing face.
+fn isolated_nodes(alloc: Global, nodes: &[NodeRow]) -> Result<Vec<NodeRow>, Memory> {
+    let mut isolated = Vec::new(alloc);
     for row in nodes {
         if row.containing_face.is_some() {
-            points.push(row.geom)?;
+            isolated.push(*row)?;
         }
     }
+    Ok(isolated)
+}
+
+fn points_of(alloc: Global, nodes: &[NodeRow]) -> Result<Vec<Grid>, Memory> {
+    let mut points = Vec::with_capacity(alloc, nodes.len())?;
+    for row in nodes {
+        points.push(row.geom)?;
+    }
     Ok(points)
+}
+
+/// Whether the node has a containing face, and it is another one.
+fn is_in_other(row: &NodeRow, face: FaceId) -> bool {
+    match row.containing_face {
+        None => false,
+        Some(containing) => containing.0 != face.0,
+    }
 }
 
 fn nodes_in_other_face(
@@ -92,17 +113,13 @@ fn nodes_in_other_face(
     nodes: &[NodeRow],
     report: &mut Report,
 ) -> Result<(), Memory> {
-    let faces = faces_above(alloc, edges, &points_of(alloc, nodes)?)?;
-    let mut rest = faces.as_slice();
-    for row in nodes {
-        let node = row.node_id;
-        if let Some(containing) = row.containing_face
-            && let [face, others @ ..] = rest
-        {
-            let face = *face;
-            report.push_if(containing.0 != face.0, ReportLine::NodeInOtherFace { node, face })?;
-            rest = others;
-        }
+    let isolated = isolated_nodes(alloc, nodes)?;
+    let points = points_of(alloc, &isolated)?;
+    let faces = faces_above(alloc, edges, &points)?;
+    for (row, face) in isolated.iter().zip(&faces) {
+        let (node, face) = (row.node_id, *face);
+        let wrong = is_in_other(row, face);
+        report.push_if(wrong, ReportLine::NodeInOtherFace { node, face })?;
     }
     Ok(())
 }
@@ -136,7 +153,9 @@ fn widest(mbr: Option<Box4>, points: &[Grid]) -> Option<Box4> {
 }
 
 /// Widens the box of a listed face.
-fn widen(faces: &Rows<FaceRow>, face: FaceId, points: &[Grid], boxes: &mut [Option<Box4>]) {
+fn widen(faces: &Rows<FaceRow>, face: FaceId, points: &[Grid], boxes: &mut [Option<Box4>])
+    requires { length boxes.old ≡ length faces.now }
+{
     if let Some(place) = faces.place_of(face.0) {
         boxes[place] = widest(boxes[place], points);
     }
@@ -176,7 +195,7 @@ pub fn place_lines(
     edges: &[EdgeRow],
     nodes: &[NodeRow],
     faces: &Rows<FaceRow>,
-    walks: &[Walk],
+    walks: &[Walk<'_>],
     report: &mut Report,
 ) -> Result<(), Memory> {
     holes_in_other_face(alloc, edges, walks, report)?;

@@ -11,9 +11,9 @@ use topo_base::{EdgeId, EdgeRow, Grid, Memory, NodeId, NodeRow, Steps};
 
 /// Whether the node has this point. A node that isn't listed has none.
 fn is_at(nodes: &Rows<NodeRow>, node: NodeId, point: Grid) -> bool {
-    match nodes.place_of(node.0) {
+    match nodes.get(node.0) {
         None => false,
-        Some(place) => is_same_point(&nodes.rows()[place].geom, &point),
+        Some(row) => is_same_point(&row.geom, &point),
     }
 }
 
@@ -83,7 +83,7 @@ pub fn plain_lines<L: Ledger>(
     report: &mut Report,
     steps: &mut Steps<L>,
 ) -> Result<(), Memory> {
-    let conflicts = conflicts_of(alloc, raw, steps)?;
+    let conflicts = conflicts_of(alloc, raw.nodes.rows(), raw.edges.rows(), steps)?;
     coincident_nodes(&conflicts.nodes, report)?;
     edges_start(raw.edges.rows(), &raw.nodes, report)?;
     edges_end(raw.edges.rows(), &raw.nodes, report)?;

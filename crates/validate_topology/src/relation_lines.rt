@@ -12,12 +12,9 @@ use topo_base::{
 
 /// Whether a feature with this id and this layer is listed.
 fn is_feature_of(features: &Rows<FeatureRow>, feature: FeatureId, layer: LayerId) -> bool {
-    match features.place_of(feature.0) {
+    match features.get(feature.0) {
         None => false,
-        Some(place) => {
-            let row = &features.rows()[place];
-            row.layer_id.0 == layer.0
-        }
+        Some(row) => row.layer_id.0 == layer.0,
     }
 }
 
@@ -50,10 +47,10 @@ fn layer_of<'a>(
     layers: &'a Rows<LayerRow>,
     feature: FeatureId,
 ) -> Option<&'a LayerRow> {
-    let place = features.place_of(feature.0)?;
-    let layer = features.rows()[place].layer_id;
-    let place = layers.place_of(layer.0)?;
-    Some(&layers.rows()[place])
+    match features.get(feature.0) {
+        None => None,
+        Some(row) => layers.get(row.layer_id.0),
+    }
 }
 
 /// Whether the type is that of the elements of a layer: the number of its type, or its child.
@@ -84,7 +81,13 @@ pub fn relations_of_wrong_kind(
         if let Some(layer) = layer_of(features, layers, row.topogeo_id) {
             let (feature, element_type) = (row.topogeo_id, row.element_type);
             let wrong = !is_right_type(layer, element_type);
-            report.push_if(wrong, ReportLine::RelationKindWrong { feature, element_type })?;
+            report.push_if(
+                wrong,
+                ReportLine::RelationKindWrong {
+                    feature,
+                    element_type,
+                },
+            )?;
         }
     }
     Ok(())
@@ -149,7 +152,10 @@ pub fn relations_without_element(raw: &RawTables, report: &mut Report) -> Result
             let (feature, element) = (row.topogeo_id, row.element_id);
             let is_right = is_right_type(layer, row.element_type);
             let missing = is_right && !has_element(layer, element, raw);
-            report.push_if(missing, ReportLine::RelationWithoutElement { feature, element })?;
+            report.push_if(
+                missing,
+                ReportLine::RelationWithoutElement { feature, element },
+            )?;
         }
     }
     Ok(())

@@ -18,7 +18,8 @@ use crate::relation_lines::{
     relations_without_feature,
 };
 use crate::ring_lines::ring_lines;
-use crate::stars::next_places;
+use crate::sides::sides_of;
+use crate::stars::followers_of;
 use crate::walks::walks_of;
 use std::alloc::Global;
 use std::marker::Brand;
@@ -37,21 +38,17 @@ fn drawing_references(raw: &RawTables, report: &mut Report) -> Result<(), Memory
     nodes_without_face(raw.nodes.rows(), &raw.faces, report)?;
     edges_without_node(raw.edges.rows(), &raw.nodes, report)?;
     edges_without_face(raw.edges.rows(), &raw.faces, report)?;
-    edges_without_next(&raw.edges, report)
+    edges_without_next(raw.edges.rows(), &raw.edges, report)
 }
 
 fn layer_references(raw: &RawTables, report: &mut Report) -> Result<(), Memory> {
     layer_levels(raw.layers.rows(), report)?;
-    layer_children(&raw.layers, report)?;
+    layer_children(raw.layers.rows(), &raw.layers, report)?;
     layer_names(raw.layers.rows(), report)?;
     features_without_layer(raw.features.rows(), &raw.layers, report)
 }
 
-fn relation_references(
-    alloc: Global,
-    raw: &RawTables,
-    report: &mut Report,
-) -> Result<(), Memory> {
+fn relation_references(alloc: Global, raw: &RawTables, report: &mut Report) -> Result<(), Memory> {
     let rows = raw.relations.rows();
     relations_without_feature(alloc, rows, &raw.features, report)?;
     relations_of_wrong_kind(rows, &raw.features, &raw.layers, report)?;
@@ -70,24 +67,21 @@ fn reference_lines(alloc: Global, raw: &RawTables, report: &mut Report) -> Resul
 /// The lines on rings and faces, of tables with right references and plain lines.
 fn face_lines(alloc: Global, raw: &RawTables, report: &mut Report) -> Result<(), Memory> {
     let edges = raw.edges.rows();
-    let next = next_places(alloc, edges)?;
-    link_lines(alloc, &raw.nodes, edges, &next, report)?;
-    if !report.lines().is_empty() {
+    let sides = sides_of(alloc, edges)?;
+    let followers = followers_of(alloc, edges)?;
+    link_lines(alloc, &raw.nodes, edges, &sides, &followers, report)?;
+    if !report.is_empty() {
         return Ok(());
     }
-    let walks = walks_of(alloc, edges, &next)?;
-    ring_lines(alloc, edges, &raw.faces, &next, &walks, report)?;
-    if !report.lines().is_empty() {
+    let walks = walks_of(alloc, &sides, &followers)?;
+    ring_lines(alloc, &raw.faces, &sides, &followers, &walks, report)?;
+    if !report.is_empty() {
         return Ok(());
     }
     place_lines(alloc, edges, raw.nodes.rows(), &raw.faces, &walks, report)
 }
 
-fn counted_report<L: Ledger>(
-    alloc: Global,
-    raw: &RawTables,
-    blank: Blank,
-) -> Result<Report, Memory>
+fn counted_report<L: Ledger>(alloc: Global, raw: &RawTables, blank: Blank) -> Result<Report, Memory>
     requires name { blank.name ≡ L.name }
     requires parts { blank.parts ≡ L.parts }
     requires some { 0 < blank.parts }
@@ -95,11 +89,11 @@ fn counted_report<L: Ledger>(
     let mut steps = Steps::<L>::new(blank);
     let mut report = Report::new(alloc);
     reference_lines(alloc, raw, &mut report)?;
-    if !report.lines().is_empty() {
+    if !report.is_empty() {
         return Ok(report);
     }
     plain_lines(alloc, raw, &mut report, &mut steps)?;
-    if report.lines().is_empty() {
+    if report.is_empty() {
         face_lines(alloc, raw, &mut report)?;
     }
     Ok(report)

@@ -1,104 +1,132 @@
 // What is wrong with the faces on the sides of rings, and with their shells.
-use crate::darts::{dart_at, left_of};
+ghost use Rattle.std.specs.Prelude.{◌≡◌, length, IfOk, vec_len};
+
 use crate::lines::{Report, ReportLine};
+use crate::sides::{Side, dart_of, left_of};
+use crate::stars::Followers;
 use crate::table::Rows;
 use crate::walks::Walk;
 use std::alloc::Global;
-use topo_base::{EdgeRow, FaceId, FaceRow, Memory};
+use topo_base::{FaceId, FaceRow, Memory};
 
-fn sides_differ(
-    edges: &[EdgeRow],
-    next: &[usize],
-    place: usize,
+/// The line of a dart and the one after it, if they have different faces on their left.
+fn side_line(side: &Side<'_>, on: &Side<'_>) -> Option<ReportLine> {
+    if left_of(side).0 == left_of(on).0 {
+        return None;
+    }
+    Some(ReportLine::RingSidesDiffer {
+        dart: dart_of(side),
+        next: dart_of(on),
+    })
+}
+
+fn backward_sides(
+    sides: &[Side<'_>],
+    followers: &Followers,
     report: &mut Report,
-) -> Result<(), Memory> {
-    let on = next[place];
-    let wrong = left_of(edges, place).0 != left_of(edges, on).0;
-    let (dart, next) = (dart_at(edges, place), dart_at(edges, on));
-    report.push_if(wrong, ReportLine::RingSidesDiffer { dart, next })
-}
-
-fn backward_sides(edges: &[EdgeRow], next: &[usize], report: &mut Report) -> Result<(), Memory> {
-    for index in (0..edges.len()).rev() {
-        sides_differ(edges, next, 2 * index + 1, report)?;
+) -> Result<(), Memory>
+    requires { length followers.now ≡ length sides.now }
+{
+    for place in (0..sides.len()).rev() {
+        if !sides[place].is_forward
+            && let Some(line) = side_line(&sides[place], &sides[followers.next(place)])
+        {
+            report.push(line)?;
+        }
     }
     Ok(())
 }
 
-fn forward_sides(edges: &[EdgeRow], next: &[usize], report: &mut Report) -> Result<(), Memory> {
-    for index in 0..edges.len() {
-        sides_differ(edges, next, 2 * index, report)?;
+fn forward_sides(
+    sides: &[Side<'_>],
+    followers: &Followers,
+    report: &mut Report,
+) -> Result<(), Memory>
+    requires { length followers.now ≡ length sides.now }
+{
+    for place in 0..sides.len() {
+        if sides[place].is_forward
+            && let Some(line) = side_line(&sides[place], &sides[followers.next(place)])
+        {
+            report.push(line)?;
+        }
     }
     Ok(())
 }
 
-/// How many shells each face has. Face 0 stands first, and then the listed ones.
+/// How many shells a face has so far, and which ring was counted last.
+#[derive(Clone, Copy)]
+struct Tally {
+    count: u32,
+    last: Option<usize>,
+}
+
+impl Tally {
+    fn none() -> Tally {
+        Tally {
+            count: 0,
+            last: None,
+        }
+    }
+
+    /// Counts the ring of this number, if it wasn't counted last.
+    fn count(&mut self, ring: usize) {
+        if self.last != Some(ring) {
+            self.last = Some(ring);
+            self.count = self.count.saturating_add(1);
+        }
+    }
+}
+
+/// How many shells face 0 has, and each listed face.
 #[derive(Drop)]
 struct Shells {
-    counts: Vec<u32>,
-    /// The number of the last ring that was counted for the face.
-    last: Vec<usize>,
+    universal: Tally,
+    listed: Vec<Tally>,
 }
 
-/// The place of a face, where face 0 stands before those that are listed.
-fn place_of(faces: &Rows<FaceRow>, face: FaceId) -> Option<usize> {
+/// Counts a shell of this number for a face.
+fn count_side(shells: &mut Shells, faces: &Rows<FaceRow>, face: FaceId, ring: usize)
+    requires { vec_len shells.old.listed ≡ length faces.now }
+    ensures { vec_len shells.new.listed ≡ length faces.now }
+{
     if face.0 == 0 {
-        return Some(0);
-    }
-    match faces.place_of(face.0) {
-        None => None,
-        Some(place) => Some(place + 1),
+        shells.universal.count(ring);
+    } else if let Some(place) = faces.place_of(face.0) {
+        shells.listed[place].count(ring);
     }
 }
 
-impl Shells {
-    fn new(alloc: Global, faces: usize) -> Result<Shells, Memory> {
-        Ok(Shells {
-            counts: vec![in alloc; 0; faces + 1]?,
-            last: vec![in alloc; 0; faces + 1]?,
-        })
-    }
-
-    /// Counts the ring of this number, from 1 on, for the face at a place, if it wasn't yet.
-    fn count(&mut self, place: usize, number: usize) {
-        if self.last[place] != number {
-            self.last[place] = number;
-            self.counts[place] = self.counts[place].saturating_add(1);
-        }
-    }
-
-    /// Counts a shell of this number for each face on the left of its darts.
-    fn count_walk(&mut self, edges: &[EdgeRow], faces: &Rows<FaceRow>, walk: &Walk, number: usize) {
-        for place in &walk.darts {
-            if let Some(face) = place_of(faces, left_of(edges, *place)) {
-                self.count(face, number);
-            }
-        }
+/// Counts a shell of this number for each face on the left of its darts.
+fn count_walk(shells: &mut Shells, faces: &Rows<FaceRow>, walk: &Walk<'_>, ring: usize)
+    requires { vec_len shells.old.listed ≡ length faces.now }
+    ensures { vec_len shells.new.listed ≡ length faces.now }
+{
+    for side in &walk.sides {
+        count_side(shells, faces, left_of(side), ring);
     }
 }
 
-fn shells_of(
-    alloc: Global,
-    edges: &[EdgeRow],
-    faces: &Rows<FaceRow>,
-    walks: &[Walk],
-) -> Result<Vec<u32>, Memory> {
-    let mut shells = Shells::new(alloc, faces.rows().len())?;
-    for (index, walk) in walks.iter().enumerate() {
+fn shells_of(alloc: Global, faces: &Rows<FaceRow>, walks: &[Walk<'_>]) -> Result<Shells, Memory> {
+    let mut shells = Shells {
+        universal: Tally::none(),
+        listed: vec![in alloc; Tally::none(); faces.rows().len()]?,
+    };
+    for (ring, walk) in walks.iter().enumerate() {
         if walk.is_shell {
-            shells.count_walk(edges, faces, walk, index + 1);
+            count_walk(&mut shells, faces, walk, ring);
         }
     }
-    Ok(shells.counts)
+    Ok(shells)
 }
 
-fn face_shells(faces: &[FaceRow], counts: &[u32], report: &mut Report) -> Result<(), Memory> {
+fn face_shells(faces: &[FaceRow], shells: &Shells, report: &mut Report) -> Result<(), Memory> {
     let face = FaceId(0);
-    let count = counts[0];
+    let count = shells.universal.count;
     report.push_if(count != 0, ReportLine::FaceShells { face, count })?;
-    for (index, row) in faces.iter().enumerate() {
+    for (row, tally) in faces.iter().zip(&shells.listed) {
         let face = row.face_id;
-        let count = counts[index + 1];
+        let count = tally.count;
         report.push_if(count != 1, ReportLine::FaceShells { face, count })?;
     }
     Ok(())
@@ -107,14 +135,16 @@ fn face_shells(faces: &[FaceRow], counts: &[u32], report: &mut Report) -> Result
 /// The lines on the sides of rings and the shells of faces.
 pub fn ring_lines(
     alloc: Global,
-    edges: &[EdgeRow],
     faces: &Rows<FaceRow>,
-    next: &[usize],
-    walks: &[Walk],
+    sides: &[Side<'_>],
+    followers: &Followers,
+    walks: &[Walk<'_>],
     report: &mut Report,
-) -> Result<(), Memory> {
-    backward_sides(edges, next, report)?;
-    forward_sides(edges, next, report)?;
-    let counts = shells_of(alloc, edges, faces, walks)?;
-    face_shells(faces.rows(), &counts, report)
+) -> Result<(), Memory>
+    requires { length followers.now ≡ length sides.now }
+{
+    backward_sides(sides, followers, report)?;
+    forward_sides(sides, followers, report)?;
+    let shells = shells_of(alloc, faces, walks)?;
+    face_shells(faces.rows(), &shells, report)
 }

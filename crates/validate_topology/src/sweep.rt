@@ -3,11 +3,10 @@
 use crate::crossing::{is_inside_piece, pieces_cross};
 use crate::pairs::{IdPair, in_order};
 use crate::pieces::{Owner, Piece, pieces_of};
-use crate::raw::RawTables;
 use grid_lines::is_same_point;
 use std::alloc::Global;
 use std::sync::ledger::Ledger;
-use topo_base::{EdgeRow, Memory, NodeRow, Steps};
+use topo_base::{EdgeId, EdgeRow, Memory, NodeId, NodeRow, Steps};
 
 /// What is in the way of what: pairs of ids, first as they were found, and then in order and each once.
 #[derive(Drop)]
@@ -45,59 +44,60 @@ impl Conflicts {
         }
     }
 
-    fn compare_nodes(&mut self, a: &NodeRow, b: &NodeRow) -> Result<(), Memory> {
-        if is_same_point(&a.geom, &b.geom) {
-            self.nodes.push(pair_of(a.node_id.0, b.node_id.0))?;
+    fn compare_nodes(&mut self, a: NodeId, b: NodeId, is_same: bool) -> Result<(), Memory> {
+        if is_same {
+            self.nodes.push(pair_of(a.0, b.0))?;
         }
         Ok(())
     }
 
-    fn compare_node(&mut self, node: &NodeRow, edge: &EdgeRow, piece: &Piece) -> Result<(), Memory> {
-        if is_inside_piece(node.geom, &edge.geom, piece) {
+    fn compare_node(&mut self, node: NodeId, edge: EdgeId, is_inside: bool) -> Result<(), Memory> {
+        if is_inside {
             self.inside.push(IdPair {
-                first: edge.edge_id.0,
-                second: node.node_id.0,
+                first: edge.0,
+                second: node.0,
             })?;
         }
         Ok(())
     }
 
-    fn compare_edges<L: Ledger>(
-        &mut self,
-        a: &EdgeRow,
-        b: &EdgeRow,
-        one: &Piece,
-        other: &Piece,
-        steps: &mut Steps<L>,
-    ) -> Result<(), Memory> {
-        if a.edge_id != b.edge_id && pieces_cross(&a.geom, &b.geom, one, other, steps) {
-            self.edges.push(pair_of(a.edge_id.0, b.edge_id.0))?;
+    fn compare_edges(&mut self, a: EdgeId, b: EdgeId, is_crossed: bool) -> Result<(), Memory> {
+        if a.0 != b.0 && is_crossed {
+            self.edges.push(pair_of(a.0, b.0))?;
         }
         Ok(())
     }
 
     fn compare<L: Ledger>(
         &mut self,
-        raw: &RawTables,
         one: &Piece,
         other: &Piece,
         steps: &mut Steps<L>,
     ) -> Result<(), Memory> {
-        let (nodes, edges) = (raw.nodes.rows(), raw.edges.rows());
-        match (one.owner, other.owner) {
-            (Owner::Node(a), Owner::Node(b)) => self.compare_nodes(&nodes[a], &nodes[b]),
-            (Owner::Node(a), Owner::Edge(b)) => self.compare_node(&nodes[a], &edges[b], other),
-            (Owner::Edge(a), Owner::Node(b)) => self.compare_node(&nodes[b], &edges[a], one),
-            (Owner::Edge(a), Owner::Edge(b)) => {
-                self.compare_edges(&edges[a], &edges[b], one, other, steps)
-            }
+        match &one.owner {
+            Owner::Node(a) => match &other.owner {
+                Owner::Node(b) => self.compare_nodes(*a, *b, is_same_point(&one.from, &other.from)),
+                Owner::Edge(b, ends) => {
+                    self.compare_node(*a, *b, is_inside_piece(&one.from, ends, other))
+                }
+            },
+            Owner::Edge(a, ends) => match &other.owner {
+                Owner::Node(b) => self.compare_node(
+                    *b,
+                    *a,
+                    is_inside_piece(&other.from, ends, one),
+                ),
+                Owner::Edge(b, others) => {
+                    let is_crossed = pieces_cross(ends, others, one, other, steps);
+                    self.compare_edges(*a, *b, is_crossed)
+                }
+            },
         }
     }
 
     /// Compares a piece with those behind it, up to the first that begins beyond its end.
     fn compare_all<L: Ledger>(
         &mut self,
-        raw: &RawTables,
         one: &Piece,
         others: &[Piece],
         steps: &mut Steps<L>,
@@ -108,8 +108,21 @@ impl Conflicts {
                 return Ok(());
             }
             if one.is_level_with(other) {
-                self.compare(raw, one, other, steps)?;
+                self.compare(one, other, steps)?;
             }
+        }
+        Ok(())
+    }
+
+    /// Compares each piece with those behind it.
+    fn compare_each<L: Ledger>(
+        &mut self,
+        pieces: &[Piece],
+        steps: &mut Steps<L>,
+    ) -> Result<(), Memory> {
+        for index in 0..pieces.len() {
+            let (_, others) = pieces.split_at(index);
+            self.compare_all(&pieces[index], &others[1..], steps)?;
         }
         Ok(())
     }
@@ -118,15 +131,12 @@ impl Conflicts {
 /// All that is in the way of something else.
 pub fn conflicts_of<L: Ledger>(
     alloc: Global,
-    raw: &RawTables,
+    nodes: &[NodeRow],
+    edges: &[EdgeRow],
     steps: &mut Steps<L>,
 ) -> Result<Conflicts, Memory> {
-    let pieces = pieces_of(alloc, raw)?;
+    let pieces = pieces_of(alloc, nodes, edges)?;
     let mut conflicts = Conflicts::new(alloc);
-    let mut rest = pieces.as_slice();
-    while let [one, others @ ..] = rest {
-        conflicts.compare_all(raw, one, others, steps)?;
-        rest = others;
-    }
+    conflicts.compare_each(&pieces, steps)?;
     Ok(conflicts.in_order())
 }
