@@ -5,31 +5,39 @@ use topo_base::{Box4, Dart, EdgeId, Grid, Kind, Line, Memory, Name};
 use topo_io::number;
 
 /// The greatest id.
-const MAX_ID: i64 = 16777215;
+const MAX_ID: u32 = 16777215;
 
-/// The number that the next word is, in this range.
-fn number_from(words: &mut Words<'_>, low: i64, high: i64) -> Option<i64> {
-    let word = words.word()?;
+/// The id whose strict decimal the word is, in this range.
+fn id_in(word: &[u8], low: u32, high: u32) -> Option<u32> {
     let n = number(word)?;
-    if low <= n && n <= high { Some(n) } else { None }
+    match u32::try_from(n) {
+        Err(_) => None,
+        Ok(id) => {
+            if low <= id && id <= high {
+                Some(id)
+            } else {
+                None
+            }
+        }
+    }
 }
 
 /// An id that a row names, or a level, or an element.
 pub fn named_id(words: &mut Words<'_>) -> Option<u32> {
-    let n = number_from(words, 0, MAX_ID)?;
-    Some(n as u32)
+    let word = words.word()?;
+    id_in(word, 0, MAX_ID)
 }
 
 /// A row's own id.
 pub fn own_id(words: &mut Words<'_>) -> Option<u32> {
-    let n = number_from(words, 1, MAX_ID)?;
-    Some(n as u32)
+    let word = words.word()?;
+    id_in(word, 1, MAX_ID)
 }
 
 /// The next id of a table.
 pub fn next_id(words: &mut Words<'_>) -> Option<u32> {
-    let n = number_from(words, 1, MAX_ID + 1)?;
-    Some(n as u32)
+    let word = words.word()?;
+    id_in(word, 1, MAX_ID + 1)
 }
 
 /// The id that a word is, or `-`.
@@ -38,24 +46,29 @@ pub fn option_id(words: &mut Words<'_>) -> Option<Option<u32>> {
     if word == b"-".as_slice() {
         return Some(None);
     }
-    let n = number(word)?;
-    if 0 <= n && n <= MAX_ID {
-        Some(Some(n as u32))
-    } else {
-        None
-    }
+    let id = id_in(word, 0, MAX_ID)?;
+    Some(Some(id))
 }
 
 /// An edge, negative where it is walked from its end to its start.
 pub fn dart(words: &mut Words<'_>) -> Option<Dart> {
-    let n = number_from(words, -MAX_ID, MAX_ID)?;
-    if n == 0 {
-        return None;
+    let word = words.word()?;
+    match word.strip_prefix(b"-".as_slice()) {
+        None => {
+            let edge = id_in(word, 1, MAX_ID)?;
+            Some(Dart {
+                edge: EdgeId(edge),
+                forward: true,
+            })
+        }
+        Some(rest) => {
+            let edge = id_in(rest, 1, MAX_ID)?;
+            Some(Dart {
+                edge: EdgeId(edge),
+                forward: false,
+            })
+        }
     }
-    Some(Dart {
-        edge: EdgeId(n.unsigned_abs() as u32),
-        forward: 0 < n,
-    })
 }
 
 /// The coordinate that a word is.
@@ -70,9 +83,15 @@ pub fn point(words: &mut Words<'_>) -> Option<Grid> {
     Grid::of(x, y)
 }
 
+/// How many vertices a line has.
+fn count_of(words: &mut Words<'_>) -> Option<u32> {
+    let word = words.word()?;
+    id_in(word, 2, MAX_ID)
+}
+
 /// How many vertices there are, and these.
 pub fn line(alloc: Global, words: &mut Words<'_>) -> Result<Option<Line>, Memory> {
-    let Some(count) = number_from(words, 2, MAX_ID) else {
+    let Some(count) = count_of(words) else {
         return Ok(None);
     };
     let mut vertices = Vec::new(alloc);
@@ -103,7 +122,9 @@ pub fn mbr(words: &mut Words<'_>) -> Option<Box4> {
 
 /// The number of a type of features.
 pub fn kind(words: &mut Words<'_>) -> Option<Kind> {
-    match number_from(words, 1, 3)? {
+    let word = words.word()?;
+    let n = id_in(word, 1, 3)?;
+    match n {
         1 => Some(Kind::Puntal),
         2 => Some(Kind::Lineal),
         _ => Some(Kind::Areal),

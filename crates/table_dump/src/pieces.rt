@@ -1,7 +1,10 @@
 // Pieces of a text between two bytes of one kind.
+ghost use Rattle.std.specs.Prelude.{◌<◌, length, IfSome};
 
 /// What stands before the first such byte, and behind it. None where there is no such byte.
-fn split(text: &[u8], byte: u8) -> Option<(&[u8], &[u8])> {
+fn split(text: &[u8], byte: u8) -> Option<(&[u8], &[u8])>
+    ensures { IfSome result (λ p. length p.1.now < length text.now) }
+{
     for (at, one) in text.iter().enumerate() {
         if *one == byte {
             let (front, rest) = text.split_at(at);
@@ -46,7 +49,9 @@ impl<'a> Words<'a> {
 }
 
 /// The first line of a text, which may end without a line feed, and the lines behind it.
-pub fn first_line(text: &[u8]) -> (&[u8], &[u8]) {
+pub fn first_line(text: &[u8]) -> (&[u8], &[u8])
+    ensures { 0 < length text.now → length result.1.now < length text.now }
+{
     match split(text, b'\n') {
         Some((line, rest)) => (line, rest),
         None => text.split_at(text.len()),

@@ -1,7 +1,7 @@
 // The lines of a dump in their order.
 use crate::pieces::{Words, first_line};
 use crate::rows::{
-    counters, edge_row, face_row, feature_row, is_face_0, layer_row, node_row, relation_row,
+    counters, edge_row, face_row, feature_row, is_face_0, layer_row, read_node, relation_row,
 };
 use std::alloc::Global;
 use topo_base::{Counters, Memory};
@@ -56,13 +56,6 @@ fn section_of(word: &[u8]) -> Option<Section> {
 }
 
 impl Reading {
-    fn read_node(&mut self, words: &mut Words<'_>) -> Result<bool, Memory> {
-        match node_row(words) {
-            None => Ok(false),
-            Some(row) => self.raw.nodes.push(row),
-        }
-    }
-
     fn read_edge(&mut self, alloc: Global, words: &mut Words<'_>) -> Result<bool, Memory> {
         match edge_row(alloc, words)? {
             None => Ok(false),
@@ -89,17 +82,17 @@ impl Reading {
     }
 
     fn read_feature(&mut self, words: &mut Words<'_>) -> Result<bool, Memory> {
-        match feature_row(words) {
-            None => Ok(false),
-            Some(row) => self.raw.features.push(row),
-        }
+        let Some(row) = feature_row(words) else {
+            return Ok(false);
+        };
+        self.raw.features.push(row)
     }
 
     fn read_relation(&mut self, words: &mut Words<'_>) -> Result<bool, Memory> {
-        match relation_row(words) {
-            None => Ok(false),
-            Some(row) => self.raw.relations.push(row),
-        }
+        let Some(row) = relation_row(words) else {
+            return Ok(false);
+        };
+        self.raw.relations.push(row)
     }
 
     /// Reads the row of a section.
@@ -111,7 +104,7 @@ impl Reading {
     ) -> Result<bool, Memory> {
         match section {
             Section::Next => Ok(false),
-            Section::Nodes => self.read_node(words),
+            Section::Nodes => read_node(&mut self.raw.nodes, words),
             Section::Edges => self.read_edge(alloc, words),
             Section::Faces => self.read_face(words),
             Section::Layers => self.read_layer(alloc, words),

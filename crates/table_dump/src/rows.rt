@@ -3,9 +3,10 @@ use crate::fields::{dart, kind, line, mbr, name, named_id, next_id, option_id, o
 use crate::pieces::Words;
 use std::alloc::Global;
 use topo_base::{
-    Counters, Dart, EdgeId, EdgeRow, FaceId, FaceRow, FeatureId, FeatureRow, LayerId, LayerRow,
-    Memory, NodeId, NodeRow, RelationRow,
+    Counters, Dart, EdgeId, EdgeRow, FaceId, FaceRow, FeatureId, FeatureRow, Grid, LayerId,
+    LayerRow, Memory, NodeId, NodeRow, RelationRow,
 };
+use validate_topology::Rows;
 
 /// Something that was read, where no word is left behind it.
 fn alone<T: Drop>(read: T, words: &Words<'_>) -> Option<T> {
@@ -28,24 +29,38 @@ pub fn counters(words: &mut Words<'_>) -> Option<Counters> {
     alone(next, words)
 }
 
-/// A face as it may be named.
-fn face_of(id: Option<u32>) -> Option<FaceId> {
-    match id {
-        None => None,
-        Some(id) => Some(FaceId(id)),
-    }
+/// A node's id, containing face and point.
+#[derive(Clone, Copy)]
+struct NodeFields {
+    id: u32,
+    face: Option<u32>,
+    geom: Grid,
 }
 
-pub fn node_row(words: &mut Words<'_>) -> Option<NodeRow> {
+fn node_fields(words: &mut Words<'_>) -> Option<NodeFields> {
     let id = own_id(words)?;
     let face = option_id(words)?;
     let geom = point(words)?;
-    let row = NodeRow {
-        node_id: NodeId(id),
-        containing_face: face_of(face),
-        geom,
+    alone(NodeFields { id, face, geom }, words)
+}
+
+/// Reads a node, and says whether it stands behind the others.
+pub fn read_node(nodes: &mut Rows<NodeRow>, words: &mut Words<'_>) -> Result<bool, Memory> {
+    let Some(fields) = node_fields(words) else {
+        return Ok(false);
     };
-    alone(row, words)
+    match fields.face {
+        None => nodes.push(NodeRow {
+            node_id: NodeId(fields.id),
+            containing_face: None,
+            geom: fields.geom,
+        }),
+        Some(face) => nodes.push(NodeRow {
+            node_id: NodeId(fields.id),
+            containing_face: Some(FaceId(face)),
+            geom: fields.geom,
+        }),
+    }
 }
 
 /// The ends, links and sides of an edge.

@@ -1,4 +1,5 @@
 pub mod Ascending
 pub mod Following
 pub mod OnlyIf
+pub mod Raw
 pub mod References

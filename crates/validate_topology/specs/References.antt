@@ -12,6 +12,7 @@ use Rattle.topo_base.specs.declared.rows.FeatureRow.{FeatureRow}
 use Rattle.drawing.specs.Rows.{row_at, has_row}
 use Rattle.drawing.specs.Drawing.{layer_id_of}
 use Rattle.drawing.specs.Subdivision.{is_above}
+use Rattle.drawing.specs.Tables.{Tables}
 use Rattle.validate_topology.specs.OnlyIf.{only_if}
 use Rattle.validate_topology.specs.declared.lines.ReportLine.{ReportLine}
 use Rattle.validate_topology.specs.declared.lines.ReportLine.TheVariants.{NodePastNext, EdgePastNext, FacePastNext, LayerPastNext, FeaturePastNext, NodeWithoutFace, EdgeWithoutNode, EdgeWithoutFace, EdgeWithoutNext, LayerLevelWrong, LayerChildWrong, LayerNameTaken, FeatureWithoutLayer}
@@ -32,7 +33,7 @@ layers_past_next next rows = flat_map (λ (l : LayerRow). only_if (nat_le next l
 abbrev pub features_past_next : ℕ → List FeatureRow → List ReportLine
 features_past_next next rows = flat_map (λ (f : FeatureRow). only_if (nat_le next f.feature_id) (FeaturePastNext f.feature_id)) rows
 
--- which nodes, edges and faces are listed; face 0 always is
+-- which nodes, edges and faces are listed
 abbrev pub lists_node : List NodeRow → ℕ → Bool
 lists_node rows n = has_row (λ (r : NodeRow). r.node_id) rows n
 
@@ -40,7 +41,7 @@ abbrev pub lists_edge : List EdgeRow → ℕ → Bool
 lists_edge rows n = has_row (λ (r : EdgeRow). r.edge_id) rows n
 
 abbrev pub lists_face : List FaceRow → ℕ → Bool
-lists_face rows n = 0 == n || has_row (λ (r : FaceRow). r.face_id) rows n
+lists_face rows n = has_row (λ (r : FaceRow). r.face_id) rows n
 
 -- containing faces that aren't listed
 abbrev pub missing_face : (ℕ → Bool) → ℕ → Option ℕ → List ReportLine
@@ -107,3 +108,21 @@ missing_layer layers f l = only_if (not (is_some (row_at layer_id_of layers l)))
 
 abbrev pub features_without_layer : List LayerRow → List FeatureRow → List ReportLine
 features_without_layer layers rows = flat_map (λ (f : FeatureRow). missing_layer layers f.feature_id f.layer_id) rows
+
+-- all of them, for raw tables
+abbrev pub past_next : Tables → List ReportLine
+past_next t =
+    nodes_past_next t.next_ids.node t.nodes ++ edges_past_next t.next_ids.edge t.edges ++ faces_past_next t.next_ids.face t.faces
+    ++ layers_past_next t.next_ids.layer t.layers ++ features_past_next t.next_ids.feature t.features
+
+abbrev pub drawing_references : Tables → List ReportLine
+drawing_references t =
+    nodes_without_face (lists_face t.faces) t.nodes ++ edges_without_node (lists_node t.nodes) t.edges
+    ++ edges_without_face (lists_face t.faces) t.edges ++ edges_without_next (lists_edge t.edges) t.edges
+
+abbrev pub layer_references : Tables → List ReportLine
+layer_references t = layer_levels t.layers ++ layer_children t.layers t.layers ++ names_taken t.layers ++ features_without_layer t.layers t.features
+
+-- the lines on ids, and on what nodes, edges, layers and features name
+abbrev pub reference_lines : Tables → List ReportLine
+reference_lines t = past_next t ++ drawing_references t ++ layer_references t

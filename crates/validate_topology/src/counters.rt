@@ -1,9 +1,10 @@
 // The ids that aren't below the next id of their table.
-ghost use Rattle.std.specs.Prelude.{◌≡◌, ◌++◌, OnOk};
+ghost use Rattle.std.specs.Prelude.{◌≡◌, ◌∷◌, [], ◌++◌, OnOk};
+ghost use Rattle.drawing.specs.Tables.{universal_face};
 ghost use Rattle.validate_topology.specs.References.{edges_past_next as edges_past, faces_past_next as faces_past, features_past_next as features_past, layers_past_next as layers_past, nodes_past_next as nodes_past};
 
 use crate::lines::{Report, ReportLine};
-use topo_base::{EdgeRow, FaceRow, FeatureRow, LayerRow, Memory, NodeRow};
+use topo_base::{EdgeRow, FaceId, FaceRow, FeatureRow, LayerRow, Memory, NodeRow};
 
 pub fn nodes_past_next(rows: &[NodeRow], next: u32, report: &mut Report) -> Result<(), Memory>
     ensures { OnOk result (report.new ≡ report.old ++ nodes_past next rows.now) }
@@ -33,6 +34,14 @@ pub fn faces_past_next(rows: &[FaceRow], next: u32, report: &mut Report) -> Resu
         report.push_if(next <= face.0, ReportLine::FacePastNext { face })?;
     }
     Ok(())
+}
+
+/// Puts the line of face 0, which every next id but 0 is past.
+pub fn universal_past_next(next: u32, report: &mut Report) -> Result<(), Memory>
+    ensures { OnOk result (report.new ≡ report.old ++ faces_past next (universal_face ∷ [])) }
+{
+    let face = FaceId(0);
+    report.push_if(next <= 0, ReportLine::FacePastNext { face })
 }
 
 pub fn layers_past_next(rows: &[LayerRow], next: u32, report: &mut Report) -> Result<(), Memory>

@@ -1,36 +1,57 @@
+ghost use Rattle.std.specs.Prelude.{◌≡◌, []};
+ghost use Rattle.drawing.specs.Relations.{row_before};
+
 use crate::table::Rows;
 use std::alloc::Global;
+use std::marker::Model;
 use topo_base::{
     Box4, Counters, EdgeRow, FaceRow, FeatureRow, LayerRow, Memory, NodeRow, RelationRow,
 };
 
-/// The rows of the relation table, by feature, then type, then element, each once.
+/// The rows of the relation table, by feature, then type, then element, each once. Contracts see the list of them.
 #[derive(Drop)]
 pub struct RelationRows {
     rows: Vec<RelationRow>,
 }
 
+impl Model for RelationRows {
+    ghost use Rattle.std.specs.Prelude.{List};
+    ghost use Rattle.topo_base.specs.declared.rows.RelationRow.{RelationRow as RowValue};
+
+    ghost Value = { List RowValue };
+
+    ghost view = { λ r. r.rows.items };
+}
+
 /// Whether a row comes before another: by feature, then by type, then by element.
-fn comes_before(a: &RelationRow, b: &RelationRow) -> bool {
-    if a.topogeo_id.0 != b.topogeo_id.0 {
-        return a.topogeo_id.0 < b.topogeo_id.0;
+fn comes_before(a: &RelationRow, b: &RelationRow) -> bool
+    ensures { result ≡ row_before a.now b.now }
+{
+    if a.topogeo_id.0 < b.topogeo_id.0 {
+        return true;
     }
-    if a.element_type != b.element_type {
-        return a.element_type < b.element_type;
+    if a.topogeo_id.0 == b.topogeo_id.0 && a.element_type < b.element_type {
+        return true;
     }
-    a.element_id < b.element_id
+    a.topogeo_id.0 == b.topogeo_id.0
+        && a.element_type == b.element_type
+        && a.element_id < b.element_id
 }
 
 impl RelationRows {
     /// No rows. Takes no memory.
-    pub fn new(alloc: Global) -> RelationRows {
+    pub fn new(alloc: Global) -> RelationRows
+        ensures { result ≡ [] }
+    {
         RelationRows {
             rows: Vec::new(alloc),
         }
     }
 
     /// The rows in order.
-    pub fn rows(&self) -> &[RelationRow] {
+    pub fn rows(&self) -> &[RelationRow]
+        ensures { result.now ≡ self.now }
+    {
         &self.rows
     }
 

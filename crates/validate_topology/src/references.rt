@@ -1,5 +1,6 @@
 // Faces, nodes and edges that rows name and that aren't listed.
-ghost use Rattle.std.specs.Prelude.{◌≡◌, ◌++◌, OnOk};
+ghost use Rattle.std.specs.Prelude.{◌≡◌, ◌∷◌, ◌++◌, OnOk};
+ghost use Rattle.drawing.specs.Tables.{universal_face};
 ghost use Rattle.validate_topology.specs.References.{edges_without_face as without_face, edges_without_next as without_next, edges_without_node as without_node, lists_edge, lists_face, lists_node, missing_face, missing_ids, missing_link, missing_links, nodes_without_face as faces_missing, signed as signed_of};
 ghost use Rattle.validate_topology.specs.declared.lines.ReportLine.TheVariants.{EdgeWithoutFace, EdgeWithoutNode};
 
@@ -16,7 +17,7 @@ fn has_node(nodes: &Rows<NodeRow>, node: NodeId) -> bool
 
 /// Whether the face is listed. Face 0 always is.
 pub fn has_face(faces: &Rows<FaceRow>, face: FaceId) -> bool
-    ensures { result ≡ lists_face faces.now face }
+    ensures { result ≡ lists_face (universal_face ∷ faces.now) face }
 {
     0 == face.0 || faces.has(face.0)
 }
@@ -27,7 +28,7 @@ fn node_without_face(
     faces: &Rows<FaceRow>,
     report: &mut Report,
 ) -> Result<(), Memory>
-    ensures { OnOk result (report.new ≡ report.old ++ missing_face (lists_face faces.now) node face) }
+    ensures { OnOk result (report.new ≡ report.old ++ missing_face (lists_face (universal_face ∷ faces.now)) node face) }
 {
     match face {
         None => Ok(()),
@@ -43,7 +44,7 @@ pub fn nodes_without_face(
     faces: &Rows<FaceRow>,
     report: &mut Report,
 ) -> Result<(), Memory>
-    ensures { OnOk result (report.new ≡ report.old ++ faces_missing (lists_face faces.now) nodes.now) }
+    ensures { OnOk result (report.new ≡ report.old ++ faces_missing (lists_face (universal_face ∷ faces.now)) nodes.now) }
 {
     for row in nodes {
         node_without_face(row.node_id, row.containing_face, faces, report)?;
@@ -95,7 +96,7 @@ fn edge_without_faces(
     faces: &Rows<FaceRow>,
     report: &mut Report,
 ) -> Result<(), Memory>
-    ensures { OnOk result (report.new ≡ report.old ++ missing_ids (lists_face faces.now) (λ f. EdgeWithoutFace edge f) a b) }
+    ensures { OnOk result (report.new ≡ report.old ++ missing_ids (lists_face (universal_face ∷ faces.now)) (λ f. EdgeWithoutFace edge f) a b) }
 {
     let low = a.0.min(b.0);
     let high = a.0.max(b.0);
@@ -115,7 +116,7 @@ pub fn edges_without_face(
     faces: &Rows<FaceRow>,
     report: &mut Report,
 ) -> Result<(), Memory>
-    ensures { OnOk result (report.new ≡ report.old ++ without_face (lists_face faces.now) edges.now) }
+    ensures { OnOk result (report.new ≡ report.old ++ without_face (lists_face (universal_face ∷ faces.now)) edges.now) }
 {
     for row in edges {
         edge_without_faces(row.edge_id, row.left_face, row.right_face, faces, report)?;

@@ -1,4 +1,7 @@
 // What is wrong with relation rows.
+ghost use Rattle.std.specs.Prelude.{OnOk};
+ghost use Rattle.validate_topology.specs.OnlyIf.{Begins};
+
 use crate::lines::{Report, ReportLine};
 use crate::pairs::{IdPair, in_order};
 use crate::raw::RawTables;
@@ -24,7 +27,9 @@ pub fn relations_without_feature(
     relations: &[RelationRow],
     features: &Rows<FeatureRow>,
     report: &mut Report,
-) -> Result<(), Memory> {
+) -> Result<(), Memory>
+    ensures { OnOk result (Begins report.old report.new) }
+{
     let mut missing = Vec::new(alloc);
     for row in relations {
         if !is_feature_of(features, row.topogeo_id, row.layer_id) {
@@ -67,7 +72,9 @@ pub fn relations_of_wrong_kind(
     features: &Rows<FeatureRow>,
     layers: &Rows<LayerRow>,
     report: &mut Report,
-) -> Result<(), Memory> {
+) -> Result<(), Memory>
+    ensures { OnOk result (Begins report.old report.new) }
+{
     let mut last = None;
     for row in relations {
         let pair = IdPair {
@@ -111,7 +118,9 @@ pub fn relations_of_universe(
     features: &Rows<FeatureRow>,
     layers: &Rows<LayerRow>,
     report: &mut Report,
-) -> Result<(), Memory> {
+) -> Result<(), Memory>
+    ensures { OnOk result (Begins report.old report.new) }
+{
     for row in relations {
         if let Some(layer) = layer_of(features, layers, row.topogeo_id) {
             let feature = row.topogeo_id;
@@ -146,7 +155,9 @@ fn has_element(layer: &LayerRow, id: u32, raw: &RawTables) -> bool {
 }
 
 /// One line for each row of the right type whose element isn't listed.
-pub fn relations_without_element(raw: &RawTables, report: &mut Report) -> Result<(), Memory> {
+pub fn relations_without_element(raw: &RawTables, report: &mut Report) -> Result<(), Memory>
+    ensures { OnOk result (Begins report.old report.new) }
+{
     for row in raw.relations.rows() {
         if let Some(layer) = layer_of(&raw.features, &raw.layers, row.topogeo_id) {
             let (feature, element) = (row.topogeo_id, row.element_id);

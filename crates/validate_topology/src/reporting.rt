@@ -1,8 +1,12 @@
 // The stages of a report.
-ghost use Rattle.std.specs.Prelude.{◌≡◌, ◌<◌};
+ghost use Rattle.std.specs.Prelude.{◌≡◌, ◌<◌, [], ◌++◌, OnOk, IfOk};
+ghost use Rattle.validate_topology.specs.OnlyIf.{Begins};
+ghost use Rattle.validate_topology.specs.Raw.{tables_in};
+ghost use Rattle.validate_topology.specs.References.{drawing_references as lines_of_drawing, layer_references as lines_of_layers, past_next as lines_past_next, reference_lines as first_lines};
 
 use crate::counters::{
     edges_past_next, faces_past_next, features_past_next, layers_past_next, nodes_past_next,
+    universal_past_next,
 };
 use crate::layer_lines::{features_without_layer, layer_children, layer_levels, layer_names};
 use crate::lines::Report;
@@ -26,29 +30,38 @@ use std::marker::Brand;
 use std::sync::ledger::{Blank, Ledger};
 use topo_base::{Memory, Steps};
 
-fn past_next(raw: &RawTables, report: &mut Report) -> Result<(), Memory> {
+fn past_next(raw: &RawTables, report: &mut Report) -> Result<(), Memory>
+    ensures { OnOk result (report.new ≡ report.old ++ lines_past_next (tables_in raw.now)) }
+{
     nodes_past_next(raw.nodes.rows(), raw.next.node, report)?;
     edges_past_next(raw.edges.rows(), raw.next.edge, report)?;
+    universal_past_next(raw.next.face, report)?;
     faces_past_next(raw.faces.rows(), raw.next.face, report)?;
     layers_past_next(raw.layers.rows(), raw.next.layer, report)?;
     features_past_next(raw.features.rows(), raw.next.feature, report)
 }
 
-fn drawing_references(raw: &RawTables, report: &mut Report) -> Result<(), Memory> {
+fn drawing_references(raw: &RawTables, report: &mut Report) -> Result<(), Memory>
+    ensures { OnOk result (report.new ≡ report.old ++ lines_of_drawing (tables_in raw.now)) }
+{
     nodes_without_face(raw.nodes.rows(), &raw.faces, report)?;
     edges_without_node(raw.edges.rows(), &raw.nodes, report)?;
     edges_without_face(raw.edges.rows(), &raw.faces, report)?;
     edges_without_next(raw.edges.rows(), &raw.edges, report)
 }
 
-fn layer_references(raw: &RawTables, report: &mut Report) -> Result<(), Memory> {
+fn layer_references(raw: &RawTables, report: &mut Report) -> Result<(), Memory>
+    ensures { OnOk result (report.new ≡ report.old ++ lines_of_layers (tables_in raw.now)) }
+{
     layer_levels(raw.layers.rows(), report)?;
     layer_children(raw.layers.rows(), &raw.layers, report)?;
     layer_names(raw.layers.rows(), report)?;
     features_without_layer(raw.features.rows(), &raw.layers, report)
 }
 
-fn relation_references(alloc: Global, raw: &RawTables, report: &mut Report) -> Result<(), Memory> {
+fn relation_references(alloc: Global, raw: &RawTables, report: &mut Report) -> Result<(), Memory>
+    ensures { OnOk result (Begins report.old report.new) }
+{
     let rows = raw.relations.rows();
     relations_without_feature(alloc, rows, &raw.features, report)?;
     relations_of_wrong_kind(rows, &raw.features, &raw.layers, report)?;
@@ -57,7 +70,10 @@ fn relation_references(alloc: Global, raw: &RawTables, report: &mut Report) -> R
 }
 
 /// The lines on ids and references.
-fn reference_lines(alloc: Global, raw: &RawTables, report: &mut Report) -> Result<(), Memory> {
+fn reference_lines(alloc: Global, raw: &RawTables, report: &mut Report) -> Result<(), Memory>
+    requires { report.old ≡ [] }
+    ensures { OnOk result (Begins (first_lines (tables_in raw.now)) report.new) }
+{
     past_next(raw, report)?;
     drawing_references(raw, report)?;
     layer_references(raw, report)?;
@@ -85,6 +101,7 @@ fn counted_report<L: Ledger>(alloc: Global, raw: &RawTables, blank: Blank) -> Re
     requires name { blank.name ≡ L.name }
     requires parts { blank.parts ≡ L.parts }
     requires some { 0 < blank.parts }
+    ensures { IfOk result (λ r. Begins (first_lines (tables_in raw.now)) r) }
 {
     let mut steps = Steps::<L>::new(blank);
     let mut report = Report::new(alloc);
@@ -99,7 +116,10 @@ fn counted_report<L: Ledger>(alloc: Global, raw: &RawTables, blank: Blank) -> Re
     Ok(report)
 }
 
-/// What is wrong with the tables, and where: the lines of the first stage that has any.
-pub fn report(alloc: Global, raw: &RawTables) -> Result<Report, Memory> {
+/// What is wrong with the tables, and where: the lines of the first stage that has any. They begin with exactly the
+/// lines on ids, and on what nodes, edges, layers and features name.
+pub fn report(alloc: Global, raw: &RawTables) -> Result<Report, Memory>
+    ensures { IfOk result (λ r. Begins (first_lines (tables_in raw.now)) r) }
+{
     counted_report::<Brand>(alloc, raw, Blank::new(1))
 }
