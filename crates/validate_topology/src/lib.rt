@@ -24,6 +24,8 @@ mod sides;
 mod stars;
 mod sweep;
 mod table;
+#[cfg(test)]
+mod tests;
 mod walks;
 
 pub use lines::{Report, ReportLine};
