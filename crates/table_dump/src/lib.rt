@@ -8,6 +8,8 @@ mod fields;
 mod pieces;
 mod read;
 mod rows;
+#[cfg(test)]
+mod tests;
 mod text;
 
 pub use read::{DumpEnd, read_tables};
