@@ -1,5 +1,5 @@
 -- Lists of lines.
-use Rattle.std.specs.Prelude.{◌≡◌, Bool, true, false, List, [], ◌∷◌, ◌++◌}
+use Rattle.std.specs.Prelude.{Bool, true, false, List, [], ◌∷◌}
 
 -- a line, where what it says holds
 abbrev pub only_if : {A : Type 0} → Bool → A → List A
@@ -10,7 +10,3 @@ only_if false line = []
 abbrev pub is_empty : {A : Type 0} → List A → Bool
 is_empty [] = true
 is_empty (line ∷ lines) = false
-
--- the second list is the first and then others
-abbrev pub Begins : {A : Type 0} → List A → List A → Type 0
-Begins {A} front whole = (rest : List A) × (front ++ rest ≡ whole)

@@ -122,7 +122,3 @@ drawing_references t =
 
 abbrev pub layer_references : Tables → List ReportLine
 layer_references t = layer_levels t.layers ++ layer_children t.layers t.layers ++ names_taken t.layers ++ features_without_layer t.layers t.features
-
--- the lines on ids, and on what nodes, edges, layers and features name
-abbrev pub reference_lines : Tables → List ReportLine
-reference_lines t = past_next t ++ drawing_references t ++ layer_references t

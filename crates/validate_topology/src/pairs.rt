@@ -1,6 +1,5 @@
 // Pairs of rows.
-use std::alloc::Global;
-use topo_base::Memory;
+ghost use Rattle.validate_topology.specs.Pairs.{IsInOrder};
 
 /// The ids of two rows.
 #[derive(Clone, Copy, Debug, PartialEq, Eq, PartialOrd, Ord)]
@@ -10,7 +9,9 @@ pub struct IdPair {
 }
 
 /// Pairs of ids in order, each once.
-pub fn in_order(mut pairs: Vec<IdPair>) -> Vec<IdPair> {
+pub fn in_order(mut pairs: Vec<IdPair>) -> Vec<IdPair>
+    ensures { IsInOrder pairs.items result.items }
+{
     pairs.sort_unstable();
     pairs.dedup();
     pairs

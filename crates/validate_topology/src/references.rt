@@ -9,10 +9,17 @@ use crate::table::Rows;
 use topo_base::{Dart, EdgeId, EdgeRow, FaceId, FaceRow, Memory, NodeId, NodeRow, is_same_dart};
 
 /// Whether the node is listed.
-fn has_node(nodes: &Rows<NodeRow>, node: NodeId) -> bool
+pub fn has_node(nodes: &Rows<NodeRow>, node: NodeId) -> bool
     ensures { result ≡ lists_node nodes.now node }
 {
     nodes.has(node.0)
+}
+
+/// Whether the edge is listed.
+pub fn has_edge(edges: &Rows<EdgeRow>, edge: EdgeId) -> bool
+    ensures { result ≡ lists_edge edges.now edge }
+{
+    edges.has(edge.0)
 }
 
 /// Whether the face is listed. Face 0 always is.

@@ -1,8 +1,8 @@
 // The stages of a report.
 ghost use Rattle.std.specs.Prelude.{◌≡◌, ◌<◌, [], ◌++◌, OnOk, IfOk};
-ghost use Rattle.validate_topology.specs.OnlyIf.{Begins};
 ghost use Rattle.validate_topology.specs.Raw.{tables_in};
-ghost use Rattle.validate_topology.specs.References.{drawing_references as lines_of_drawing, layer_references as lines_of_layers, past_next as lines_past_next, reference_lines as first_lines};
+ghost use Rattle.validate_topology.specs.References.{drawing_references as lines_of_drawing, layer_references as lines_of_layers, past_next as lines_past_next};
+ghost use Rattle.validate_topology.specs.RelationLines.{AreReferenceLines, IsFirstStage};
 
 use crate::counters::{
     edges_past_next, faces_past_next, features_past_next, layers_past_next, nodes_past_next,
@@ -17,10 +17,7 @@ use crate::raw::RawTables;
 use crate::references::{
     edges_without_face, edges_without_next, edges_without_node, nodes_without_face,
 };
-use crate::relation_lines::{
-    relations_of_universe, relations_of_wrong_kind, relations_without_element,
-    relations_without_feature,
-};
+use crate::relation_lines::relation_lines;
 use crate::ring_lines::ring_lines;
 use crate::sides::sides_of;
 use crate::stars::followers_of;
@@ -59,25 +56,15 @@ fn layer_references(raw: &RawTables, report: &mut Report) -> Result<(), Memory>
     features_without_layer(raw.features.rows(), &raw.layers, report)
 }
 
-fn relation_references(alloc: Global, raw: &RawTables, report: &mut Report) -> Result<(), Memory>
-    ensures { OnOk result (Begins report.old report.new) }
-{
-    let rows = raw.relations.rows();
-    relations_without_feature(alloc, rows, &raw.features, report)?;
-    relations_of_wrong_kind(rows, &raw.features, &raw.layers, report)?;
-    relations_of_universe(rows, &raw.features, &raw.layers, report)?;
-    relations_without_element(raw, report)
-}
-
 /// The lines on ids and references.
 fn reference_lines(alloc: Global, raw: &RawTables, report: &mut Report) -> Result<(), Memory>
     requires { report.old ≡ [] }
-    ensures { OnOk result (Begins (first_lines (tables_in raw.now)) report.new) }
+    ensures { OnOk result (AreReferenceLines (tables_in raw.now) report.new) }
 {
     past_next(raw, report)?;
     drawing_references(raw, report)?;
     layer_references(raw, report)?;
-    relation_references(alloc, raw, report)
+    relation_lines(alloc, raw, report)
 }
 
 /// The lines on rings and faces, of tables with right references and plain lines.
@@ -101,7 +88,7 @@ fn counted_report<L: Ledger>(alloc: Global, raw: &RawTables, blank: Blank) -> Re
     requires name { blank.name ≡ L.name }
     requires parts { blank.parts ≡ L.parts }
     requires some { 0 < blank.parts }
-    ensures { IfOk result (λ r. Begins (first_lines (tables_in raw.now)) r) }
+    ensures { IfOk result (IsFirstStage (tables_in raw.now)) }
 {
     let mut steps = Steps::<L>::new(blank);
     let mut report = Report::new(alloc);
@@ -116,10 +103,10 @@ fn counted_report<L: Ledger>(alloc: Global, raw: &RawTables, blank: Blank) -> Re
     Ok(report)
 }
 
-/// What is wrong with the tables, and where: the lines of the first stage that has any. They begin with exactly the
-/// lines on ids, and on what nodes, edges, layers and features name.
+/// What is wrong with the tables, and where: the lines of the first stage that has any. Those of the first
+/// stage, on ids and on what rows name, are exactly those of the definition.
 pub fn report(alloc: Global, raw: &RawTables) -> Result<Report, Memory>
-    ensures { IfOk result (λ r. Begins (first_lines (tables_in raw.now)) r) }
+    ensures { IfOk result (IsFirstStage (tables_in raw.now)) }
 {
     counted_report::<Brand>(alloc, raw, Blank::new(1))
 }

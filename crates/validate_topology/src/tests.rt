@@ -30,6 +30,9 @@ fn next_ids_are_tested(rt: HostRuntime) -> Result<(), Fail> {
     let sound = report(alloc, &one_node(alloc, 8)?)?;
     assert!(rt; sound.is_empty());
     let spent = report(alloc, &one_node(alloc, 7)?)?;
-    assert_eq!(rt; spent.lines(), [ReportLine::NodePastNext { node: NodeId(7) }].as_slice());
+    assert_eq!(rt;
+        spent.lines(),
+        [ReportLine::NodePastNext { node: NodeId(7) }].as_slice()
+    );
     Ok(())
 }
