@@ -103,9 +103,3 @@ pub record AreReferenceLines (t : Tables) (lines : List ReportLine) : Type 0 whe
   pub on_relations : List ReportLine
   pub relations_are : AreRelationLines t on_relations
   pub all : lines ≡ past_next t ++ drawing_references t ++ layer_references t ++ on_relations
-
--- a report has exactly the lines of the first stage, where this has any
-pub record IsFirstStage (t : Tables) (report : List ReportLine) : Type 0 where
-  pub lines : List ReportLine
-  pub are : AreReferenceLines t lines
-  pub alone : (lines ≡ [] → ⊥) → report ≡ lines

@@ -2,7 +2,8 @@
 ghost use Rattle.std.specs.Prelude.{◌≡◌, ◌<◌, [], ◌++◌, OnOk, IfOk};
 ghost use Rattle.validate_topology.specs.Raw.{tables_in};
 ghost use Rattle.validate_topology.specs.References.{drawing_references as lines_of_drawing, layer_references as lines_of_layers, past_next as lines_past_next};
-ghost use Rattle.validate_topology.specs.RelationLines.{AreReferenceLines, IsFirstStage};
+ghost use Rattle.validate_topology.specs.RelationLines.{AreReferenceLines};
+ghost use Rattle.validate_topology.specs.Stages.{IsReport};
 
 use crate::counters::{
     edges_past_next, faces_past_next, features_past_next, layers_past_next, nodes_past_next,
@@ -88,7 +89,7 @@ fn counted_report<L: Ledger>(alloc: Global, raw: &RawTables, blank: Blank) -> Re
     requires name { blank.name ≡ L.name }
     requires parts { blank.parts ≡ L.parts }
     requires some { 0 < blank.parts }
-    ensures { IfOk result (IsFirstStage (tables_in raw.now)) }
+    ensures { IfOk result (IsReport (tables_in raw.now)) }
 {
     let mut steps = Steps::<L>::new(blank);
     let mut report = Report::new(alloc);
@@ -97,16 +98,17 @@ fn counted_report<L: Ledger>(alloc: Global, raw: &RawTables, blank: Blank) -> Re
         return Ok(report);
     }
     plain_lines(alloc, raw, &mut report, &mut steps)?;
-    if report.is_empty() {
-        face_lines(alloc, raw, &mut report)?;
+    if !report.is_empty() {
+        return Ok(report);
     }
+    face_lines(alloc, raw, &mut report)?;
     Ok(report)
 }
 
 /// What is wrong with the tables, and where: the lines of the first stage that has any. Those of the first
-/// stage, on ids and on what rows name, are exactly those of the definition.
+/// stage are exactly those of the definition, and so are those of the second on the ends and lines of edges.
 pub fn report(alloc: Global, raw: &RawTables) -> Result<Report, Memory>
-    ensures { IfOk result (IsFirstStage (tables_in raw.now)) }
+    ensures { IfOk result (IsReport (tables_in raw.now)) }
 {
     counted_report::<Brand>(alloc, raw, Blank::new(1))
 }

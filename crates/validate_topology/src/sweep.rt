@@ -1,5 +1,8 @@
 // Pairs of nodes and edges that are in each other's way. Pieces stand by how far to the right they begin, so a piece
 // is compared with those behind it until one begins beyond its end.
+ghost use Rattle.std.specs.Prelude.{IsTrue, IfOk};
+ghost use Rattle.validate_topology.specs.Pairs.{pairs_ascend};
+
 use crate::crossing::{is_inside_piece, pieces_cross};
 use crate::pairs::{IdPair, in_order};
 use crate::pieces::{Owner, Piece, pieces_of};
@@ -36,7 +39,11 @@ impl Conflicts {
         }
     }
 
-    fn in_order(self) -> Conflicts {
+    fn in_order(self) -> Conflicts
+        ensures nodes { IsTrue (pairs_ascend result.nodes.items) }
+        ensures inside { IsTrue (pairs_ascend result.inside.items) }
+        ensures edges { IsTrue (pairs_ascend result.edges.items) }
+    {
         Conflicts {
             nodes: in_order(self.nodes),
             inside: in_order(self.inside),
@@ -134,7 +141,11 @@ pub fn conflicts_of<L: Ledger>(
     nodes: &[NodeRow],
     edges: &[EdgeRow],
     steps: &mut Steps<L>,
-) -> Result<Conflicts, Memory> {
+) -> Result<Conflicts, Memory>
+    ensures nodes { IfOk result (λ c. IsTrue (pairs_ascend c.nodes.items)) }
+    ensures inside { IfOk result (λ c. IsTrue (pairs_ascend c.inside.items)) }
+    ensures edges { IfOk result (λ c. IsTrue (pairs_ascend c.edges.items)) }
+{
     let pieces = pieces_of(alloc, nodes, edges)?;
     let mut conflicts = Conflicts::new(alloc);
     conflicts.compare_each(&pieces, steps)?;
