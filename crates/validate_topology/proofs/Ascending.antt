@@ -1,6 +1,6 @@
 -- A row behind others whose ids ascend.
-use Rattle.std.proofs.Common.{◌≡◌, ℕ, ◌<◌, List, [], ◌∷◌, ◌++◌, refl}
-use Rattle.std.specs.Prelude.{nat_lt, IsTrue, ◌&&◌, Bool, true}
+use Rattle.std.proofs.Common.{◌≡◌, ℕ, List, [], ◌∷◌, ◌++◌, refl}
+use Rattle.std.specs.Prelude.{nat_lt, IsTrue, true}
 use Rattle.std.proofs.lemmas.Bool.{and_parts, and_from}
 use Rattle.validate_topology.specs.Ascending.{numbers_ascend, last_number}
 

@@ -1,12 +1,11 @@
 -- What a search by id answers, where ids ascend.
-use Rattle.std.proofs.Common.{◌≡◌, ◌≢◌, ℕ, zero, suc, ◌+◌, ◌<◌, ◌≤◌, refl, sym, subst, ap, ◌∙◌, arith, eqb, ⊎_elim, inl, inr, true, false, cond, List, [], ◌∷◌, length, get_or, Result, Ok, Err, Option, Some, None}
+use Rattle.std.proofs.Common.{◌≡◌, ◌≢◌, ℕ, zero, suc, ◌+◌, ◌<◌, ◌≤◌, refl, sym, subst, ap, ◌∙◌, arith, ⊎_elim, cond, List, [], ◌∷◌, length, get_or, Result, Ok, Err, Some, None}
 use Rattle.std.specs.Prelude.{IsTrue, nat_lt, slice_get, option_and_then, Bool}
 use Rattle.std.specs.List.{find}
 use Rattle.std.specs.List.Sorted.{IsBinarySearchResult, IsSearchInRange}
 use Rattle.std.specs.Result.{result_ok}
 use Rattle.std.specs.Ordering.{nat_cmp}
 use Rattle.std.specs.Cmp.{nat_cmp_is}
-use Rattle.std.specs.declared.cmp.Ordering.{Ordering}
 use Rattle.std.specs.declared.cmp.Ordering.TheVariants.{Less, Equal, Greater}
 use Rattle.std.proofs.lemmas.Bool.{and_parts, ltb-true, cases_lt, ne_eqb, eq-eqb}
 use Rattle.std.proofs.lemmas.Cmp.{nat_cmp_total}

@@ -1,6 +1,5 @@
 -- The lines of a report on ids and on what rows name.
-use Rattle.std.specs.Prelude.{ℕ, Bool, true, false, not, ◌&&◌, ◌||◌, ◌==◌, nat_le, min, max, List, [], ◌∷◌, ◌++◌, flat_map, map, Option, Some, None, is_some, ℤ, pos, neg_ℤ, int_lt, if◌then◌else◌}
-use Rattle.std.specs.List.{list_any}
+use Rattle.std.specs.Prelude.{ℕ, Bool, true, false, not, ◌&&◌, ◌==◌, nat_le, min, max, List, [], ◌∷◌, ◌++◌, flat_map, Option, Some, None, is_some, ℤ, pos, neg_ℤ, int_lt, if◌then◌else◌}
 use Rattle.std.specs.Str.{bytes_eq}
 use Rattle.topo_base.specs.Darts.{same_dart}
 use Rattle.topo_base.specs.declared.ids.Dart.{Dart}

@@ -1,4 +1,4 @@
-use Rattle.std.proofs.Common.{◌≡◌, ◌++◌, ◌∙◌, List, map, refl, ap}
+use Rattle.std.proofs.Common.{◌++◌, ◌∙◌, List, map, refl, ap}
 use Rattle.topo_base.specs.declared.rows.EdgeRow.{EdgeRow}
 use Rattle.validate_topology.specs.PlainLines.{coincident, crossed_edge, crossed_node, ends_mismatched, not_simple, starts_mismatched}
 use Rattle.validate_topology.specs.Raw.{tables_in}

@@ -1,4 +1,4 @@
-use Rattle.std.proofs.Common.{◌≡◌, ◌++◌, ◌∙◌, List, map, refl, ap, subst}
+use Rattle.std.proofs.Common.{◌++◌, ◌∙◌, List, map, refl, ap, subst}
 use Rattle.validate_topology.specs.Pairs.{IsInOrder}
 use Rattle.validate_topology.specs.Raw.{tables_in}
 use Rattle.validate_topology.specs.RelationLines.{kind_wrong, missing_elements, mistyped, universes, unlisted, without_feature}

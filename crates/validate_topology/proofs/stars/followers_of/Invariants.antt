@@ -1,4 +1,4 @@
-use Rattle.std.proofs.Common.{◌≡◌, ◌≤◌, length, vec_len}
+use Rattle.std.proofs.Common.{◌≡◌, ◌≤◌, vec_len}
 use Rattle.validate_topology.specs.Following.{AreWithin}
 use Rattle.validate_topology.proofs.stars.followers_of.Given as goal
 

@@ -1,4 +1,4 @@
-use Rattle.std.proofs.Common.{◌≡◌, ◌<◌, sym, ◌∙◌, ap, arith, lt-ltb}
+use Rattle.std.proofs.Common.{◌≡◌, ◌<◌, sym, ◌∙◌, arith, lt-ltb}
 use Rattle.validate_topology.specs.Ascending.{last_number}
 use Rattle.validate_topology.proofs.Ascending.{ascend_push, last_push}
 use Rattle.validate_topology.proofs.table.Rows.push.Goals as goal
