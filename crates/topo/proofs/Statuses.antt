@@ -144,8 +144,11 @@ other_words_end words came kept from to old new before behind result (shows show
 other_words_end words came kept from to old new before behind result (checks check c h) bad not_check = absurd (not_check check)
 
 -- check is no form with a journal
+no_two : (n : ℕ) → n ≡ 2 → n ≡ 1 → ⊥
+no_two n a b = omega arith
+
 not_form : (words : List (List ℕ)) (form : Form) → IsCheck words → IsForm words form → ⊥
-not_form words form check is = let two : 2 ≡ 1 = ap length (sym is.words_are ∙ check) in omega arith
+not_form words form check is = no_two (length words) (ap (λ (ws : List (List ℕ)). length ws) is.words_are) (ap (λ (ws : List (List ℕ)). length ws) check)
 
 -- a form is one form
 one_form : (words : List (List ℕ)) (f g : Form) → IsForm words f → IsForm words g → f ≡ g

@@ -1,4 +1,4 @@
-ghost use Rattle.std.specs.Prelude.{◌≡◌, ◌↔◌, ◌∷◌, [], map, string_bytes, IfSome, IfNone, IsTrue};
+ghost use Rattle.std.specs.Prelude.{◌≡◌, ◌↔◌, ◌∷◌, [], codes, map, string_bytes, IfSome, IfNone, IsTrue};
 ghost use Rattle.topo.specs.Words.{IsCheck, IsForm, AreForm, names_journal, verb_of};
 
 /// What a form shows of a journal.
@@ -73,12 +73,22 @@ pub fn journal_word(words: &[String]) -> Option<&String>
     }
 }
 
+/// Whether this is the word that asks for a report on a dump.
+fn is_check_word(verb: &str) -> bool
+    ensures { IsTrue result ↔ verb.now ≡ codes "check" }
+{
+    match verb {
+        "check" => true,
+        _ => false,
+    }
+}
+
 /// Whether the words are the one that asks for a report on a dump.
 pub fn is_check(words: &[String]) -> bool
     ensures { IsTrue result ↔ IsCheck (map string_bytes words.now) }
 {
     match words {
-        [verb] => verb.as_str() == "check",
+        [verb] => is_check_word(verb.as_str()),
         _ => false,
     }
 }
