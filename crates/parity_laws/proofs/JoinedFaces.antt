@@ -179,12 +179,10 @@ joined_above T first rest last F' F l r k m m' v h not_outer number at g n = by_
         ∙ at g n
         ∙ number_other l r k m m' g number q nl nr
 
--- an end of the line at which no other step begins is in the joined face
-pub joined_above_end : (T : List Segment) (first : Segment) (rest : List Segment) (last : Segment) (F' F : Segment → ℕ) (l r k : ℕ) (e : Segment) → TwoFaces T first rest last F' F l r k → (k ≢ 0 → (l ≢ 0) × (r ≢ 0)) → IsEndOf first last e →
-    ((t : Segment) → In t T → t.a ≢ e.a) → ((g : ℕ) → g ≢ 0 → Sided (with_line T (first ∷ rest)) (of_face F' g)) → (g : ℕ) → g ≢ 0 → above (those (of_face F g) T) e.a ≡ eqb k g
-joined_above_end T first rest last F' F l r k e h not_outer end none sided g n =
-    above_end T first rest last (those (of_face F g) T) e h.comes end none (label_even T h.comes.old.plain h.comes.old.once (of_face F g) (joined_ringwise T first rest last F' F l r k h g)) (those_within (of_face F g) T)
-    ∙ by_kind (kind_of l r k g)
+-- the parities on the left of the line say the joined face
+pub joined_left : (T : List Segment) (first : Segment) (rest : List Segment) (last : Segment) (F' F : Segment → ℕ) (l r k : ℕ) → TwoFaces T first rest last F' F l r k → (k ≢ 0 → (l ≢ 0) × (r ≢ 0)) →
+    ((g : ℕ) → g ≢ 0 → Sided (with_line T (first ∷ rest)) (of_face F' g)) → (g : ℕ) → g ≢ 0 → left (those (of_face F g) T) first ≡ eqb k g
+joined_left T first rest last F' F l r k h not_outer sided g n = by_kind (kind_of l r k g)
   where
     same : (p q : Segment → Bool) → ((s : Segment) → In s T → p s ≡ q s) → left (those q T) first ≡ left (those p T) first
     same p q f = ap (λ X. left X first) (sym (those_same p q T f))
@@ -206,3 +204,10 @@ joined_above_end T first rest last F' F l r k e h not_outer end none sided g n =
         ∙ left_without_line T first rest last (of_face F' g) false h.comes (h.rings g) off.0 off.1 first
         ∙ sided g n first (first_there T first rest)
         ∙ off.0 ∙ sym (ne_eqb k g (λ z. q (sym z)))
+
+-- an end of the line at which no other step begins is in the joined face
+pub joined_above_end : (T : List Segment) (first : Segment) (rest : List Segment) (last : Segment) (F' F : Segment → ℕ) (l r k : ℕ) (e : Segment) → TwoFaces T first rest last F' F l r k → (k ≢ 0 → (l ≢ 0) × (r ≢ 0)) → IsEndOf first last e →
+    ((t : Segment) → In t T → t.a ≢ e.a) → ((g : ℕ) → g ≢ 0 → Sided (with_line T (first ∷ rest)) (of_face F' g)) → (g : ℕ) → g ≢ 0 → above (those (of_face F g) T) e.a ≡ eqb k g
+joined_above_end T first rest last F' F l r k e h not_outer end none sided g n =
+    above_end T first rest last (those (of_face F g) T) e h.comes end none (label_even T h.comes.old.plain h.comes.old.once (of_face F g) (joined_ringwise T first rest last F' F l r k h g)) (those_within (of_face F g) T)
+    ∙ joined_left T first rest last F' F l r k h not_outer sided g n

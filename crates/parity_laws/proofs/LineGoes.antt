@@ -4,7 +4,7 @@ use Rattle.std.proofs.lemmas.Bool.{both_ways, eqb-true}
 use Rattle.topo_base.specs.Point.{Point}
 use Rattle.plane.specs.Segment.{Segment}
 use Rattle.plane.specs.Crossings.{back}
-use Rattle.parity_laws.specs.Steps.{above}
+use Rattle.parity_laws.specs.Steps.{above, left}
 use Rattle.parity_laws.specs.Ways.{Tied}
 use Rattle.parity_laws.specs.Rings.{In, Plain, Within, Once, Drawn, those, Ringwise, Sided, of_face}
 use Rattle.parity_laws.proofs.Ringwise.{each_within}
@@ -13,9 +13,9 @@ use Rattle.parity_laws.proofs.Rearranging.{Rearranged, rearranged_back, same_abo
 use Rattle.parity_laws.specs.Coming.{with_line, Strung, LineComes}
 use Rattle.parity_laws.proofs.FaceShells.{HasOnce}
 use Rattle.parity_laws.proofs.LineGone.{IsEndOf}
-use Rattle.parity_laws.proofs.JoinedFaces.{JoinedNumber, TwoFaces, joined_ringwise, joined_sided, joined_above, joined_above_end}
+use Rattle.parity_laws.proofs.JoinedFaces.{JoinedNumber, TwoFaces, joined_ringwise, joined_sided, joined_above, joined_above_end, joined_left}
 use Rattle.parity_laws.proofs.JoinedShells.{OuterJoins, joined_shells, joined_outer}
-use Rattle.parity_laws.proofs.OneFace.{OneFace, one_ringwise, one_sided, one_above, face_above_end}
+use Rattle.parity_laws.proofs.OneFace.{OneFace, one_ringwise, one_sided, one_above, one_left, face_above_end}
 use Rattle.parity_laws.proofs.PartedShells.{PartsFace, parts_face, parted_one_shell, parted_no_shell}
 
 -- U has the steps of T and of the line, both ways
@@ -120,6 +120,13 @@ points_join U T first rest last F' F WasFace IsFace l r k m m' v h number at g n
     joined_above T first rest last F' F l r k m m' v (two_faces U T first rest last F' F WasFace IsFace l r k h) h.outer.inner number
     (λ x nx. same_above (with_line T (first ∷ rest)) U (of_face F' x) v (rearranged_back U (with_line T (first ∷ rest)) h.goes.same) ∙ at x nx) g n
 
+-- left of the line is the joined face
+pub left_joins : (U T : List Segment) (first : Segment) (rest : List Segment) (last : Segment) (F' F : Segment → ℕ) (WasFace IsFace : ℕ → Type 0) (l r k : ℕ) → FacesJoin U T first rest last F' F WasFace IsFace l r k →
+    (g : ℕ) → g ≢ 0 → left (those (of_face F g) T) first ≡ eqb k g
+left_joins U T first rest last F' F WasFace IsFace l r k h g n =
+    joined_left T first rest last F' F l r k (two_faces U T first rest last F' F WasFace IsFace l r k h) h.outer.inner
+    (same_faces U (with_line T (first ∷ rest)) F' WasFace h.goes.same h.right).sided g n
+
 -- an end of the line where no other step begins is in the joined face
 pub end_joins : (U T : List Segment) (first : Segment) (rest : List Segment) (last : Segment) (F' F : Segment → ℕ) (WasFace IsFace : ℕ → Type 0) (l r k : ℕ) (e : Segment) → FacesJoin U T first rest last F' F WasFace IsFace l r k →
     IsEndOf first last e → ((t : Segment) → In t T → t.a ≢ e.a) → (g : ℕ) → g ≢ 0 → above (those (of_face F g) T) e.a ≡ eqb k g
@@ -169,6 +176,12 @@ pub points_stay : (U T : List Segment) (first : Segment) (rest : List Segment) (
     above (those (of_face F g) T) v ≡ above (those (of_face F g) U) v
 points_stay U T first rest last F IsFace f h g v =
     one_above T first rest last F f (one_face U T first rest last F IsFace f h) g v ∙ same_above (with_line T (first ∷ rest)) U (of_face F g) v (rearranged_back U (with_line T (first ∷ rest)) h.goes.same)
+
+-- left of the line is the line's face
+pub left_stays : (U T : List Segment) (first : Segment) (rest : List Segment) (last : Segment) (F : Segment → ℕ) (IsFace : ℕ → Type 0) (f : ℕ) → FaceStays U T first rest last F IsFace f →
+    (g : ℕ) → g ≢ 0 → left (those (of_face F g) T) first ≡ eqb f g
+left_stays U T first rest last F IsFace f h g n =
+    one_left T first rest last F f (one_face U T first rest last F IsFace f h) g (same_sided U (with_line T (first ∷ rest)) (of_face F g) h.goes.same (h.right.sided g n))
 
 -- an end of the line where no other step begins is in the line's face
 pub end_stays : (U T : List Segment) (first : Segment) (rest : List Segment) (last : Segment) (F : Segment → ℕ) (IsFace : ℕ → Type 0) (f : ℕ) (e : Segment) → FaceStays U T first rest last F IsFace f →

@@ -4,7 +4,7 @@ use Rattle.std.proofs.lemmas.Bool.{eqb-true}
 use Rattle.topo_base.specs.Point.{Point}
 use Rattle.plane.specs.Segment.{Segment}
 use Rattle.plane.specs.Crossings.{back}
-use Rattle.parity_laws.specs.Steps.{above}
+use Rattle.parity_laws.specs.Steps.{above, left}
 use Rattle.parity_laws.specs.Rings.{In, Next, those, Ringwise, Sided, of_face}
 use Rattle.parity_laws.proofs.Star.{those_within}
 use Rattle.parity_laws.proofs.Following.{follows}
@@ -35,15 +35,21 @@ pub one_above : (T : List Segment) (first : Segment) (rest : List Segment) (last
     above (those (of_face F g) T) v ≡ above (those (of_face F g) (with_line T (first ∷ rest))) v
 one_above T first rest last F f h g v = above_without_line T first rest last (of_face F g) (eqb f g) h.comes (h.rings g) (ap (λ z. eqb z g) h.forth) (ap (λ z. eqb z g) h.walked) v
 
+-- the parities on the left of the line say its face
+pub one_left : (T : List Segment) (first : Segment) (rest : List Segment) (last : Segment) (F : Segment → ℕ) (f : ℕ) → OneFace T first rest last F f → (g : ℕ) →
+    Sided (with_line T (first ∷ rest)) (of_face F g) → left (those (of_face F g) T) first ≡ eqb f g
+one_left T first rest last F f h g sided =
+    left_without_line T first rest last (of_face F g) (eqb f g) h.comes (h.rings g) (ap (λ z. eqb z g) h.forth) (ap (λ z. eqb z g) h.walked) first
+    ∙ sided first (first_there T first rest)
+    ∙ ap (λ z. eqb z g) h.forth
+
 -- ---- an end at which no other step begins
 -- without the line it lies in the line's face
 pub face_above_end : (T : List Segment) (first : Segment) (rest : List Segment) (last : Segment) (F : Segment → ℕ) (f : ℕ) (e : Segment) → OneFace T first rest last F f → IsEndOf first last e →
     ((t : Segment) → In t T → t.a ≢ e.a) → (g : ℕ) → Sided (with_line T (first ∷ rest)) (of_face F g) → above (those (of_face F g) T) e.a ≡ eqb f g
 face_above_end T first rest last F f e h end none g sided =
     above_end T first rest last (those (of_face F g) T) e h.comes end none (label_even T h.comes.old.plain h.comes.old.once (of_face F g) (one_ringwise T first rest last F f h g)) (those_within (of_face F g) T)
-    ∙ left_without_line T first rest last (of_face F g) (eqb f g) h.comes (h.rings g) (ap (λ z. eqb z g) h.forth) (ap (λ z. eqb z g) h.walked) first
-    ∙ sided first (first_there T first rest)
-    ∙ ap (λ z. eqb z g) h.forth
+    ∙ one_left T first rest last F f h g sided
 
 -- ---- the ring of the line has it both ways
 pub one_ring : (T : List Segment) (first : Segment) (rest : List Segment) (last : Segment) (F : Segment → ℕ) (f : ℕ) (p : Segment → Bool) → OneFace T first rest last F f → HasOnce (with_line T (first ∷ rest)) F f →

@@ -18,7 +18,9 @@ use Rattle.face_laws.specs.Covered.{IsCovered}
 use Rattle.face_laws.proofs.Covering.{known}
 use Rattle.subdivision_laws.proofs.Covers.{Covers}
 use Rattle.subdivision_laws.proofs.RingAdded.{FacesBelow}
-use Rattle.subdivision_laws.proofs.GoneFaces.{IsFaceOf, two_settled, one_settled}
+use Rattle.plane.specs.Segment.{Segment}
+use Rattle.subdivision_laws.proofs.GoneSteps.{Takes}
+use Rattle.subdivision_laws.proofs.GoneFaces.{IsFaceOf, Settled, TwoSides, two_settled, one_settled}
 use Rattle.subdivision_laws.proofs.MergedGone.{merged_covers}
 
 -- ---- new numbers
@@ -90,18 +92,21 @@ face_left_anew S gone new g is n =
     (Contains-push_cases (without_faces S gone) new x c)
 
 -- ---- the drawings after it
-abbrev faces_joined : Drawing → Edge → ℕ → ℕ → Drawing
+abbrev pub faces_joined : Drawing → Edge → ℕ → ℕ → Drawing
 faces_joined S e kept goes = merged_with S e (goes ∷ []) kept (without_faces S (goes ∷ [])) S.next_ids
 
-abbrev faces_joined_anew : Drawing → Edge → Drawing
+abbrev pub faces_joined_anew : Drawing → Edge → Drawing
 faces_joined_anew S e =
     let gone = e.left_face ∷ e.right_face ∷ [] in
     merged_with S e gone S.next_ids.face (without_faces S gone ++ S.next_ids.face ∷ []) (record (S.next_ids) { face = S.next_ids.face + 1 })
 
 -- one face was on both sides
+pub one_side : (S : Drawing) (e : Edge) (first : Segment) (rest : List Segment) → e.left_face ≡ e.right_face → Takes S (merged_with S e [] e.left_face S.faces S.next_ids) e first rest (renamed [] e.left_face)
+    → Settled S (merged_with S e [] e.left_face S.faces S.next_ids) first rest (renamed [] e.left_face) e.left_face
+one_side S e first rest same h = one_settled S (merged_with S e [] e.left_face S.faces S.next_ids) e first rest (renamed [] e.left_face) (record { takes = h; one = same; stay = λ m. refl; listed = λ g is. is })
+
 pub edge_goes : (S : Drawing) (e : Edge) → EdgeMayGo S e → e.left_face ≡ e.right_face → IsCovered S → IsRinged (merged_with S e [] e.left_face S.faces S.next_ids) → Covers (merged_with S e [] e.left_face S.faces S.next_ids)
-edge_goes S e k same c = merged_covers S e [] e.left_face S.faces S.next_ids c k.there (λ first rest h.
-    one_settled S (merged_with S e [] e.left_face S.faces S.next_ids) e first rest (renamed [] e.left_face) (record { takes = h; one = same; stay = λ m. refl; listed = λ g is. is }))
+edge_goes S e k same c = merged_covers S e [] e.left_face S.faces S.next_ids c k.there (λ first rest h. one_side S e first rest same h)
 
 -- of the two faces one is kept
 record IsKept (l r kept goes : ℕ) : Type 0 where
@@ -127,33 +132,43 @@ kept_is e kept goes (inr s) some = record {
   off = λ g ng nk. ((λ q. ng (q ∙ sym s.1)), (λ q. nk (q ∙ sym s.0)));
 }
 
-pub faces_join : (S : Drawing) (e : Edge) (kept goes : ℕ) → FacesMayJoin S e → AreSides e kept goes → goes ≢ 0 → IsCovered S → IsRinged (faces_joined S e kept goes) → Covers (faces_joined S e kept goes)
-faces_join S e kept goes k sides some c =
+pub sides_join : (S : Drawing) (e : Edge) (kept goes : ℕ) (first : Segment) (rest : List Segment) → FacesMayJoin S e → AreSides e kept goes → goes ≢ 0 → Takes S (faces_joined S e kept goes) e first rest (renamed (goes ∷ []) kept)
+    → TwoSides S (faces_joined S e kept goes) e first rest (renamed (goes ∷ []) kept) kept
+sides_join S e kept goes first rest k sides some h =
     let s = kept_is e kept goes sides some in
-    merged_covers S e (goes ∷ []) kept (without_faces S (goes ∷ [])) S.next_ids c k.edge.there (λ first rest h.
-    two_settled S (faces_joined S e kept goes) e first rest (renamed (goes ∷ []) kept) kept (record {
+    record {
       takes = h;
       differ = k.differ;
       numbers = λ m _. one_number e.left_face e.right_face goes kept m (s.sides m) (s.goes_off m) s.one;
       outer = s.outer;
       others = λ g is n. let f = face_left S (goes ∷ []) g is in let off = s.off g (off_one g goes f.1) n in (f.0, off.0, off.1);
-    }))
+    }
 
-pub faces_join_anew : (S : Drawing) (e : Edge) → FacesMayJoin S e → e.left_face ≢ 0 → e.right_face ≢ 0 → FacesBelow S → IsCovered S → IsRinged (faces_joined_anew S e) → Covers (faces_joined_anew S e)
-faces_join_anew S e k some other below c =
+pub faces_join : (S : Drawing) (e : Edge) (kept goes : ℕ) → FacesMayJoin S e → AreSides e kept goes → goes ≢ 0 → IsCovered S → IsRinged (faces_joined S e kept goes) → Covers (faces_joined S e kept goes)
+faces_join S e kept goes k sides some c =
+    merged_covers S e (goes ∷ []) kept (without_faces S (goes ∷ [])) S.next_ids c k.edge.there (λ first rest h.
+    two_settled S (faces_joined S e kept goes) e first rest (renamed (goes ∷ []) kept) kept (sides_join S e kept goes first rest k sides some h))
+
+pub sides_join_anew : (S : Drawing) (e : Edge) (first : Segment) (rest : List Segment) → FacesMayJoin S e → e.left_face ≢ 0 → e.right_face ≢ 0 → FacesBelow S → Takes S (faces_joined_anew S e) e first rest (renamed (e.left_face ∷ e.right_face ∷ []) S.next_ids.face)
+    → TwoSides S (faces_joined_anew S e) e first rest (renamed (e.left_face ∷ e.right_face ∷ []) S.next_ids.face) S.next_ids.face
+sides_join_anew S e first rest k some other below h =
     let gone = e.left_face ∷ e.right_face ∷ [] in
     let new = S.next_ids.face in
-    merged_covers S e gone new (without_faces S gone ++ new ∷ []) (record (S.next_ids) { face = new + 1 }) c k.edge.there (λ first rest h.
-    two_settled S (faces_joined_anew S e) e first rest (renamed gone new) new (record {
+    record {
       takes = h;
       differ = k.differ;
       numbers = λ m is. two_number e.left_face e.right_face new m (less m is);
-      outer = record { outer = λ q. absurd (less 0 (known S c.ringed).universe (sym q)); inner = λ n. (some, other) };
+      outer = record { outer = λ q. absurd (less 0 (known S h.before.ringed).universe (sym q)); inner = λ n. (some, other) };
       others = λ g is n.
           let f = face_left S gone g (face_left_anew S gone new g is n) in
           let off = off_both g e.left_face e.right_face f.1 in
           (f.0, off.0, off.1);
-    }))
+    }
   where
     less : (m : ℕ) → IsFaceOf S m → m ≢ S.next_ids.face
     less m is q = let k = below m is in omega (arith, k, q)
+
+pub faces_join_anew : (S : Drawing) (e : Edge) → FacesMayJoin S e → e.left_face ≢ 0 → e.right_face ≢ 0 → FacesBelow S → IsCovered S → IsRinged (faces_joined_anew S e) → Covers (faces_joined_anew S e)
+faces_join_anew S e k some other below c =
+    merged_covers S e (e.left_face ∷ e.right_face ∷ []) S.next_ids.face (without_faces S (e.left_face ∷ e.right_face ∷ []) ++ S.next_ids.face ∷ []) (record (S.next_ids) { face = S.next_ids.face + 1 }) c k.edge.there (λ first rest h.
+    two_settled S (faces_joined_anew S e) e first rest (renamed (e.left_face ∷ e.right_face ∷ []) S.next_ids.face) S.next_ids.face (sides_join_anew S e first rest k some other below h))

@@ -3,14 +3,14 @@ use Rattle.std.proofs.Common.{◌≡◌, ◌≢◌, ℕ, sym, ◌∙◌, ap, sub
 use Rattle.topo_base.specs.Point.{Point}
 use Rattle.drawing.specs.Drawing.{Drawing, Edge, has_face}
 use Rattle.plane.specs.Segment.{Segment}
-use Rattle.parity_laws.specs.Steps.{above}
+use Rattle.parity_laws.specs.Steps.{above, left}
 use Rattle.parity_laws.specs.Rings.{In, those, of_face}
 use Rattle.parity_laws.proofs.Labels.{shell_faces, one_shell_faces, those_same, ringwise_same, sided_same}
 use Rattle.parity_laws.proofs.OnLine.{last_step}
 use Rattle.parity_laws.proofs.JoinedFaces.{JoinedNumber}
 use Rattle.parity_laws.proofs.JoinedShells.{OuterJoins}
 use Rattle.parity_laws.proofs.LineGone.{IsEndOf}
-use Rattle.parity_laws.proofs.LineGoes.{FacesAreRight, FacesJoin, FaceStays, faces_join, points_join, end_joins, faces_stay, points_stay, end_stays}
+use Rattle.parity_laws.proofs.LineGoes.{FacesAreRight, FacesJoin, FaceStays, faces_join, points_join, left_joins, end_joins, faces_stay, points_stay, left_stays, end_stays}
 use Rattle.face_laws.specs.Walked.{steps_of}
 use Rattle.face_laws.specs.Covered.{face_of, IsInFaceOf}
 use Rattle.face_laws.proofs.Covering.{known}
@@ -19,10 +19,11 @@ use Rattle.subdivision_laws.proofs.GoneSteps.{Takes, edge_goes, faces_before, fa
 abbrev pub IsFaceOf : Drawing → ℕ → Type 0
 IsFaceOf S g = IsTrue (has_face S g)
 
--- T's faces are right; points stay in their faces, and an end of the line where no other step begins is in the face k
+-- T's faces are right; points stay in their faces, left of the line's first step is the face k, and an end of the line where no other step begins is in the face k
 pub record Settled (S T : Drawing) (first : Segment) (rest : List Segment) (name : ℕ → ℕ) (k : ℕ) : Type 0 where
   pub right : FacesAreRight (steps_of T) (face_of T) (IsFaceOf T)
   pub points : (v : Point) (m : ℕ) → IsFaceOf S m → IsInFaceOf S v m → IsInFaceOf T v (name m)
+  pub beside : (g : ℕ) → g ≢ 0 → left (those (of_face (face_of T) g) (steps_of T)) first ≡ eqb k g
   pub ends : (x : Segment) → IsEndOf first (last_step first rest) x → ((t : Segment) → In t (steps_of T) → t.a ≢ x.a) → IsInFaceOf T x.a k
 
 -- the faces on an edge's sides are listed
@@ -69,6 +70,7 @@ two_settled S T e first rest name k h = record {
   points = λ v m is placed g n.
       points_join (steps_of S) (steps_of T) first rest (last_step first rest) (face_of S) (face_of T) (IsFaceOf S) (IsFaceOf T) e.left_face e.right_face k m (name m) v (joins S T e first rest name k h)
       (h.numbers m is) placed g n;
+  beside = λ g n. left_joins (steps_of S) (steps_of T) first rest (last_step first rest) (face_of S) (face_of T) (IsFaceOf S) (IsFaceOf T) e.left_face e.right_face k (joins S T e first rest name k h) g n;
   ends = λ x end none g n.
       end_joins (steps_of S) (steps_of T) first rest (last_step first rest) (face_of S) (face_of T) (IsFaceOf S) (IsFaceOf T) e.left_face e.right_face k x (joins S T e first rest name k h) end none g n;
 }
@@ -110,6 +112,9 @@ one_settled S T e first rest name h = record {
       above_same v g
       ∙ points_stay (steps_of S) (steps_of T) first rest (last_step first rest) (face_of S) (IsFaceOf S) e.left_face (stays S T e first rest name h) g v
       ∙ placed g n ∙ ap (λ z. eqb z g) (sym (h.stay m));
+  beside = λ g n.
+      ap (λ X. left X first) (same_those g)
+      ∙ left_stays (steps_of S) (steps_of T) first rest (last_step first rest) (face_of S) (IsFaceOf S) e.left_face (stays S T e first rest name h) g n;
   ends = λ x end none g n.
       above_same x.a g
       ∙ end_stays (steps_of S) (steps_of T) first rest (last_step first rest) (face_of S) (IsFaceOf S) e.left_face x (stays S T e first rest name h) end none g n;
@@ -120,5 +125,8 @@ one_settled S T e first rest name h = record {
         let (x, (c, (side, renamed))) = face_after S T e first rest name h.takes s i in
         sym (renamed ∙ h.stay (face_of S s))
 
+    same_those : (g : ℕ) → those (of_face (face_of T) g) (steps_of T) ≡ those (of_face (face_of S) g) (steps_of T)
+    same_those g = those_same (of_face (face_of T) g) (of_face (face_of S) g) (steps_of T) (λ s i. sym (label_alike (steps_of T) (face_of S) (face_of T) same g s i))
+
     above_same : (v : Point) (g : ℕ) → above (those (of_face (face_of T) g) (steps_of T)) v ≡ above (those (of_face (face_of S) g) (steps_of T)) v
-    above_same v g = ap (λ X. above X v) (those_same (of_face (face_of T) g) (of_face (face_of S) g) (steps_of T) (λ s i. sym (label_alike (steps_of T) (face_of S) (face_of T) same g s i)))
+    above_same v g = ap (λ X. above X v) (same_those g)

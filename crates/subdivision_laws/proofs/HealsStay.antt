@@ -39,10 +39,10 @@ joined_segments a b h k e =
     segments-joined a b p.first q.first (p.second ∷ p.rest) (q.second ∷ q.rest) p.is q.is e
 
 -- the steps of a half-edge are those of two others
-record IsAlong (whole first second : HalfEdge) : Type 0 where
-  steps : (s : Segment) → In s (steps_along whole) → In s (steps_along first) ⊎ In s (steps_along second)
-  of_first : (s : Segment) → In s (steps_along first) → In s (steps_along whole)
-  of_second : (s : Segment) → In s (steps_along second) → In s (steps_along whole)
+pub record IsAlong (whole first second : HalfEdge) : Type 0 where
+  pub steps : (s : Segment) → In s (steps_along whole) → In s (steps_along first) ⊎ In s (steps_along second)
+  pub of_first : (s : Segment) → In s (steps_along first) → In s (steps_along whole)
+  pub of_second : (s : Segment) → In s (steps_along second) → In s (steps_along whole)
 
 along_both : (a b c : HalfEdge) → 2 ≤ length b.points → 2 ≤ length c.points → last_vertex b.points ≡ first_vertex c.points → a.points ≡ joined b.points c.points → IsAlong a b c
 along_both a b c h k e is =
@@ -63,7 +63,7 @@ both_turned x h k (inl b) = inr (b.1, b.0)
 both_turned x h k (inr b) = inl (b.1, b.0)
 
 -- the joined edge lies along both
-joint_along : (S : Drawing) (n : ℕ) (e f J : Edge) (j : Joint S n e f J) → 2 ≤ length j.up.points → 2 ≤ length j.on.points → IsAlong j.start j.up j.on
+pub joint_along : (S : Drawing) (n : ℕ) (e f J : Edge) (j : Joint S n e f J) → 2 ≤ length j.up.points → 2 ≤ length j.on.points → IsAlong j.start j.up j.on
 joint_along S n e f J j h k =
     ⊎_elim
     (λ (is : j.start.points ≡ joined j.up.points j.on.points). along_both j.start j.up j.on h k j.meets is)
@@ -90,9 +90,10 @@ way_of : (x : Edge) (h k : HalfEdge) → AreBoth x h k → (forward_of x ≡ h) 
 way_of x h k (inl b) = inl b.0
 way_of x h k (inr b) = inr b.0
 
-healed_carries : (S : Drawing) (n : ℕ) (e f : Edge) (id : ℕ) (fs : List Edge) (rows : List RelationRow) (ids : Counters) → HasRings S → IsHealed S n e f id fs → HasPlainLines (healed_with S n fs rows ids)
-    → CarriesOver S (healed_with S n fs rows ids)
-healed_carries S n e f id fs rows ids rings h more = same_steps S T good more along back_along
+-- each drawing lies along the other
+pub healed_along : (S : Drawing) (n : ℕ) (e f : Edge) (id : ℕ) (fs : List Edge) (rows : List RelationRow) (ids : Counters) → HasRings S → IsHealed S n e f id fs
+    → LiesAlong S (healed_with S n fs rows ids) × LiesAlong (healed_with S n fs rows ids) S
+healed_along S n e f id fs rows ids rings h = (along, back_along)
   where
     T : Drawing
     T = healed_with S n fs rows ids
@@ -146,6 +147,12 @@ healed_carries S n e f id fs rows ids rings h more = same_steps S T good more al
         (λ (p : (x.edge_id ≡ e.edge_id → ⊥) × (x.edge_id ≡ f.edge_id → ⊥)). own_steps T x (h.old x c p.0 p.1))
         o)
         (edge_cases S n e f id fs x good h c)
+
+healed_carries : (S : Drawing) (n : ℕ) (e f : Edge) (id : ℕ) (fs : List Edge) (rows : List RelationRow) (ids : Counters) → HasRings S → IsHealed S n e f id fs → HasPlainLines (healed_with S n fs rows ids)
+    → CarriesOver S (healed_with S n fs rows ids)
+healed_carries S n e f id fs rows ids rings h more =
+    let both = healed_along S n e f id fs rows ids rings h in
+    same_steps S (healed_with S n fs rows ids) (has_plain_lines S rings) more both.0 both.1
 
 pub healed_covers : (S : Drawing) (n : ℕ) (e f : Edge) (id : ℕ) (fs : List Edge) (rows : List RelationRow) (ids : Counters) → IsCovered S → IsHealed S n e f id fs → IsRinged (healed_with S n fs rows ids) → Covers (healed_with S n fs rows ids)
 healed_covers S n e f id fs rows ids c h ringed =

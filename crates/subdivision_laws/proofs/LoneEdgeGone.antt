@@ -26,7 +26,7 @@ use Rattle.subdivision_laws.proofs.GoneFaces.{Settled, one_settled}
 use Rattle.subdivision_laws.proofs.GoneNodes.{end_placed, node_stays, put_row, settled_covers}
 
 -- its two sides are one
-alone_sides : (S : Drawing) (e : Edge) → IsCovered S → Contains S.edges e → IsAlone S e → e.left_face ≡ e.right_face
+pub alone_sides : (S : Drawing) (e : Edge) → IsCovered S → Contains S.edges e → IsAlone S e → e.left_face ≡ e.right_face
 alone_sides S e c ce alone = joined_of S (lines_before S c) c.ringed.rings.one_face (backward_of e) (backward_of e) turns
   where
     only : (k : HalfEdge) → Contains (half_edges S) k → k.from_node ≡ e.end_node → k ≡ backward_of e
@@ -59,6 +59,14 @@ same_sides : (edges : List Edge) → edges ≡ map (with_sides (λ m. m)) edges
 same_sides [] = refl
 same_sides (e ∷ edges) = ap (λ (es : List Edge). e ∷ es) (same_sides edges)
 
+-- left of its line is that face, without it
+lone_takes : (S : Drawing) (e : Edge) (first : Segment) (rest : List Segment) → LoneEdgeMayGo S e → IsCovered S → IsRinged (without_edge S e) → segments_of e.geom ≡ first ∷ rest → Takes S (without_edge S e) e first rest (λ m. m)
+lone_takes S e first rest k c ringed line = record { before = c; after = ringed; there = k.there; line = line; edges = same_sides (without_row edge_id_of S.edges e.edge_id) }
+
+pub lone_settled : (S : Drawing) (e : Edge) (first : Segment) (rest : List Segment) → LoneEdgeMayGo S e → IsCovered S → IsRinged (without_edge S e) → segments_of e.geom ≡ first ∷ rest → Settled S (without_edge S e) first rest (λ m. m) e.left_face
+lone_settled S e first rest k c ringed line =
+    one_settled S (without_edge S e) e first rest (λ m. m) (record { takes = lone_takes S e first rest k c ringed line; one = alone_sides S e c k.there (alone_of S e k.lone); stay = λ m. refl; listed = λ g is. is })
+
 -- ---- the drawing without it
 pub lone_edge_less : (S : Drawing) (e : Edge) → LoneEdgeMayGo S e → IsCovered S → IsRinged (without_edge S e) → Covers (without_edge S e)
 lone_edge_less S e k c ringed =
@@ -75,10 +83,10 @@ lone_edge_less S e k c ringed =
     by_line first rest line = settled_covers S (without_edge S e) first rest (λ m. m) e.left_face settled placed
       where
         takes : Takes S (without_edge S e) e first rest (λ m. m)
-        takes = record { before = c; after = ringed; there = ce; line = line; edges = same_sides (without_row edge_id_of S.edges e.edge_id) }
+        takes = lone_takes S e first rest k c ringed line
 
         settled : Settled S (without_edge S e) first rest (λ m. m) e.left_face
-        settled = one_settled S (without_edge S e) e first rest (λ m. m) (record { takes = takes; one = alone_sides S e c ce alone; stay = λ m. refl; listed = λ g is. is })
+        settled = lone_settled S e first rest k c ringed line
 
         end_row : (n : NodeRow) → Contains (without_edge S e).nodes n → (r : NodeRow) × (Contains S.nodes r × ((n.node_id ≡ r.node_id) × (n.geom ≡ r.geom)))
         end_row n i =

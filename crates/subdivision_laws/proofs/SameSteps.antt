@@ -11,8 +11,10 @@ use Rattle.plane.specs.Segment.{Segment}
 use Rattle.plane.specs.Crossings.{back}
 use Rattle.face_rings.proofs.HalfLines.{HasPlainLines}
 use Rattle.face_rings.proofs.HalvesApart.{half_of, forward_there, twin_there}
-use Rattle.parity_laws.specs.Steps.{above}
-use Rattle.parity_laws.specs.Rings.{In, Within, of_face}
+use Rattle.topo_base.specs.RationalPoint.{RationalPoint}
+use Rattle.plane.specs.Crossings.{crosses_at}
+use Rattle.parity_laws.specs.Steps.{above, above_at}
+use Rattle.parity_laws.specs.Rings.{In, Within, of_face, those}
 use Rattle.parity_laws.specs.Shelling.{OneShell, NoShell}
 use Rattle.parity_laws.proofs.Labels.{those_same, sided_same, one_shell_faces, no_shell_faces}
 use Rattle.parity_laws.proofs.Rearranging.{Rearranged, same_above, same_sided, same_one_shell, same_no_shell}
@@ -91,6 +93,21 @@ half_along : (S T : Drawing) → LiesAlong S T → (h : HalfEdge) → Contains (
 half_along S T along = along_halves T (StepBetween S) (turned_between S) along
 
 -- ---- two drawings, each of which lies along the other
+within : (U V : Drawing) → LiesAlong U V → Within (steps_of V) (steps_of U)
+within U V along s i =
+    let (h, (c, j)) = half_with V s i in
+    let b = half_along U V along h c s j in
+    step_there U b.half s b.there b.on
+
+same_order : (S T : Drawing) → HasPlainLines S → HasPlainLines T → LiesAlong S T → LiesAlong T S → Rearranged (steps_of S) (steps_of T)
+same_order S T good more along back_along = rearranged_of (steps_of S) (steps_of T) (steps_once S good) (steps_once T more) (within T S back_along) (within S T along)
+
+same_face : (S T : Drawing) → HasPlainLines S → HasPlainLines T → LiesAlong S T → (s : Segment) → In s (steps_of T) → face_of S s ≡ face_of T s
+same_face S T good more along s i =
+    let (h, (c, j)) = half_with T s i in
+    let b = half_along S T along h c s j in
+    left_is S b.half s good b.there b.on ∙ b.left ∙ sym (left_is T h s more c j)
+
 pub same_steps : (S T : Drawing) → HasPlainLines S → HasPlainLines T → LiesAlong S T → LiesAlong T S → CarriesOver S T
 same_steps S T good more along back_along = record {
   sided = λ sided f some. sided_same (steps_of T) (of_face (face_of S) f) (of_face (face_of T) f) (λ s i. ap (λ g. eqb g f) (faces s i)) (same_sided (steps_of S) (steps_of T) (of_face (face_of S) f) order (sided f some));
@@ -102,17 +119,14 @@ same_steps S T good more along back_along = record {
       ∙ lies g some;
 }
   where
-    within : (U V : Drawing) → LiesAlong U V → Within (steps_of V) (steps_of U)
-    within U V along s i =
-        let (h, (c, j)) = half_with V s i in
-        let b = half_along U V along h c s j in
-        step_there U b.half s b.there b.on
-
     order : Rearranged (steps_of S) (steps_of T)
-    order = rearranged_of (steps_of S) (steps_of T) (steps_once S good) (steps_once T more) (within T S back_along) (within S T along)
+    order = same_order S T good more along back_along
 
     faces : (s : Segment) → In s (steps_of T) → face_of S s ≡ face_of T s
-    faces s i =
-        let (h, (c, j)) = half_with T s i in
-        let b = half_along S T along h c s j in
-        left_is S b.half s good b.there b.on ∙ b.left ∙ sym (left_is T h s more c j)
+    faces = same_face S T good more along
+
+-- the parities over a rational point are the same
+pub same_over : (S T : Drawing) (g : ℕ) (q : RationalPoint) → HasPlainLines S → HasPlainLines T → LiesAlong S T → LiesAlong T S → above_at (those (of_face (face_of T) g) (steps_of T)) q ≡ above_at (those (of_face (face_of S) g) (steps_of S)) q
+same_over S T g q good more along back_along =
+    ap (λ X. above_at X q) (sym (those_same (of_face (face_of S) g) (of_face (face_of T) g) (steps_of T) (λ s i. ap (λ k. eqb k g) (same_face S T good more along s i))))
+    ∙ sym ((same_order S T good more along back_along).sums (of_face (face_of S) g) (λ t. crosses_at t q))

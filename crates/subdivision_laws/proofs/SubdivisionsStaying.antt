@@ -18,12 +18,12 @@ use Rattle.plane.proofs.ListTests.{contains_none}
 use Rattle.edit_changes.specs.Evidence.{IsDecided, is_within}
 use Rattle.edit_changes.proofs.Histories.{after_within, after_edits, in_histories}
 use Rattle.ring_laws.specs.Ringed.{IsRinged}
-use Rattle.reference_laws.proofs.ReferencesStaying.{references_stay}
+use Rattle.reference_laws.proofs.ReferencesStaying.{change_referenced, references_stay}
 use Rattle.face_laws.specs.Covered.{IsCovered}
 use Rattle.face_laws.proofs.Covering.{covered_faced}
 use Rattle.face_laws.proofs.ShellsListed.{shells_listed}
 use Rattle.subdivision_laws.specs.Subdivided.{IsSubdivided, SubdivisionsStay}
-use Rattle.subdivision_laws.proofs.Covers.{Covers, covered, covers}
+use Rattle.subdivision_laws.proofs.Covers.{Covers, covered}
 use Rattle.subdivision_laws.proofs.EdgesAdded.{edge_comes, face_is_divided, face_is_divided_anew}
 use Rattle.subdivision_laws.proofs.EdgesGone.{edge_goes, faces_join, faces_join_anew}
 use Rattle.subdivision_laws.proofs.HealsStay.{healed_covers}
@@ -65,11 +65,13 @@ change_covers S (FeatureLists row) k w below h ringed = aside S S.layers S.featu
 change_covers S (FeatureUnlists row) k w below h ringed = aside S S.layers S.features _ S.next_ids h
 change_covers S (FeatureGoes t) k w below h ringed = aside S S.layers _ _ S.next_ids h
 
+pub change_subdivided : (S : Drawing) (c : Change) → IsDecided S c → is_within c ≡ true → IsSubdivided S → IsSubdivided ((apply S c).drawing)
+change_subdivided S c k w h =
+    let known = change_referenced S c k w h.referenced in
+    record { referenced = known; covered = covered ((apply S c).drawing) known.rings (change_covers S c k w (faces_below S (faces_in_order S h.referenced.ids)) h.covered known.rings) }
+
 edit_keeps : (S : Drawing) (e : Edit) → keeps_limits e ≡ true → IsSubdivided S → IsSubdivided (after S e)
-edit_keeps S e limits h =
-    let known = references_stay.each_kept S e limits h.referenced in
-    let keeps = after_within (λ T. IsRinged T → Covers T) S e limits (λ c k w. change_covers S c k w (faces_below S (faces_in_order S h.referenced.ids)) h.covered) (λ _. covers S h.covered) in
-    record { referenced = known; covered = covered (after S e) known.rings (keeps known.rings) }
+edit_keeps S e limits h = after_within IsSubdivided S e limits (λ c k w. change_subdivided S c k w h) h
 
 -- ---- a subdivision
 is_subdivision : (S : Drawing) → IsSubdivided S → IsSubdivision S

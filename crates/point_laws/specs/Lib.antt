@@ -1,0 +1,2 @@
+pub mod PointsStay
+pub mod FirstAlone
