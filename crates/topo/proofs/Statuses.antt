@@ -129,7 +129,7 @@ checked_means from to old new result (reported lines read (print_cut (inr is) p)
 
 pub means : (words : List (List ℕ)) (came kept : Type 0) (from to : SourceView) (old new : SinkView) (before behind : DiskView) (result : ℕ) → Ending words came kept from to old new before behind result
     → Means words from to old new before behind result
-means words came kept from to old new before behind result (bad_words other none c same h) = said_means words from to old new before behind _ 2 result h (λ is. has_other_words is other)
+means words came kept from to old new before behind result (bad_words other none c same h) = said_means words from to old new before behind _ 2 result h (λ is. has_other_words is other none)
 means words came kept from to old new before behind result (applied form h) = applied_means words came kept from to old new before behind result form h
 means words came kept from to old new before behind result (shows shown form same h) = showed_means words shown kept from to old new before behind result form same h
 means words came kept from to old new before behind result (checks check c h) = checks_dump check (checked_means from to old new result h)

@@ -1,7 +1,9 @@
 //! A report on tables from anywhere: what keeps them from standing for a planar subdivision, and where.
 //!
-//! It stands on the exact tests of `grid_segments`, `grid_lines`, `grid_angle` and `grid_rays`, and on the rows of
-//! `topo_base`.
+//! It stands on the exact tests of `grid_segments`, `grid_lines`, `grid_angle` and `grid_rays`, and on the tables of
+//! `drawing`. It promises the lines on ids and references, and those on the ends and lines of edges, exactly as
+//! `specs/` defines them. The lines on crossings, links, rings, faces and boxes have no clause. Reading dumps and
+//! printing lines is left to `table_dump`.
 #![tactic(auto)]
 
 mod above;
