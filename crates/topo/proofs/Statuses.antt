@@ -16,13 +16,14 @@ use Rattle.topo.specs.declared.words.Form.{Form}
 use Rattle.topo.specs.declared.words.Form.TheVariants.{Apply, Show}
 use Rattle.topo.specs.declared.words.Shown.{Shown}
 use Rattle.topo.specs.declared.words.Shown.TheVariants.{Tables, Features, History}
-use Rattle.topo.specs.Words.{IsForm, AreForm, verb_of}
+use Rattle.topo.specs.Words.{IsForm, AreForm, IsCheck, verb_of}
 use Rattle.topo.specs.Views.{SourceView, SinkView, DiskView}
-use Rattle.topo.specs.Output.{Says, said, unsaid, Tells, says, no_memory, IsCutBy, Prints, printed, print_cut}
+use Rattle.topo.specs.Output.{Says, said, unsaid, Tells, says, no_memory, IsCutBy, Prints, printed, print_cut, report_status}
+use Rattle.validate_topology.specs.declared.lines.ReportLine.{ReportLine}
 use Rattle.topo.specs.Run.{is_disk_fault, has_fault, faults_of, faults_in, RoseBy, status_of}
-use Rattle.topo.specs.Statuses.{HasInput, HasForm, Means, runs_well, has_other_words, has_bad_line, has_bad_gate, source_failed, sink_failed, disk_failed, wants_memory, is_too_long, IsGoodInput, IsComplete}
+use Rattle.topo.specs.Statuses.{HasInput, HasForm, Means, runs_well, has_other_words, has_bad_line, has_bad_gate, source_failed, sink_failed, disk_failed, wants_memory, is_too_long, checks_dump, MeansOfDump, is_reported, has_bad_dump_line, dump_source_failed, dump_sink_failed, dump_wants_memory, dump_is_too_long, IsGoodInput, IsComplete}
 use Rattle.topo.proofs.Readings.{stands_not_bad}
-use Rattle.topo.specs.Endings.{max_source, standard, WasRead, WasRecovered, Unrecovered, no_journal, disk_fault, not_recovered, RunsScript, ran_whole, ran_cut, RunsOn, nothing_read, ran, Applied, source_fault, too_long, not_read, no_script, bad_line, had_script, Showed, nothing_shown, showed, Ending, bad_words, applied, shows}
+use Rattle.topo.specs.Endings.{max_source, standard, WasRead, WasRecovered, Unrecovered, no_journal, disk_fault, not_recovered, RunsScript, ran_whole, ran_cut, RunsOn, nothing_read, ran, Applied, source_fault, too_long, not_read, no_script, bad_line, had_script, Showed, nothing_shown, showed, Checked, dump_fault, dump_too_long, dump_not_read, bad_dump_line, no_report, reported, Ending, bad_words, applied, shows, checks}
 
 -- ---- what holds of what the source told
 pub at_some : (P : List ℕ → Type 0) (o : Option (List ℕ)) (bytes : List ℕ) → o ≡ Some bytes → IfSome o P → P bytes
@@ -107,19 +108,47 @@ showed_means words shown kept from to old new before behind result form same (sh
 showed_means words shown kept from to old new before behind result form same (showed k read rec sound calm (print_cut (inl failed) p)) = sink_failed failed.0 failed.1
 showed_means words shown kept from to old new before behind result form same (showed k read rec sound calm (print_cut (inr is) p)) = wants_memory is (Show shown, form)
 
+said_of_dump : (from to : SourceView) (old new : SinkView) (text : List ℕ) (status result : ℕ) → Says old new text status result → (result ≡ status → MeansOfDump from to old new result) → MeansOfDump from to old new result
+said_of_dump from to old new text status result (said is p) then' = then' is
+said_of_dump from to old new text status result (unsaid is rose p) then' = dump_sink_failed is rose
+
+report_status_small : (lines : List ReportLine) (result : ℕ) → result ≡ report_status lines → result ≤ 1
+report_status_small [] result e = omega arith
+report_status_small (line ∷ lines) result e = omega arith
+
+checked_means : (from to : SourceView) (old new : SinkView) (result : ℕ) → Checked from to old new result → MeansOfDump from to old new result
+checked_means from to old new result (dump_fault rose h) = said_of_dump from to old new _ 5 result h (λ is. dump_source_failed is rose)
+checked_means from to old new result (dump_too_long more h) = said_of_dump from to old new _ 9 result h (λ is. dump_is_too_long is more)
+checked_means from to old new result (dump_not_read is p) = dump_wants_memory is
+checked_means from to old new result (bad_dump_line n read (says h)) = said_of_dump from to old new _ 3 result h (λ is. has_bad_dump_line is read)
+checked_means from to old new result (bad_dump_line n read (no_memory is p)) = dump_wants_memory is
+checked_means from to old new result (no_report read is p) = dump_wants_memory is
+checked_means from to old new result (reported lines read (printed is p calm)) = is_reported (report_status_small lines result is) read
+checked_means from to old new result (reported lines read (print_cut (inl failed) p)) = dump_sink_failed failed.0 failed.1
+checked_means from to old new result (reported lines read (print_cut (inr is) p)) = dump_wants_memory is
+
 pub means : (words : List (List ℕ)) (came kept : Type 0) (from to : SourceView) (old new : SinkView) (before behind : DiskView) (result : ℕ) → Ending words came kept from to old new before behind result
     → Means words from to old new before behind result
-means words came kept from to old new before behind result (bad_words other c same h) = said_means words from to old new before behind _ 2 result h (λ is. has_other_words is other)
+means words came kept from to old new before behind result (bad_words other none c same h) = said_means words from to old new before behind _ 2 result h (λ is. has_other_words is other none)
 means words came kept from to old new before behind result (applied form h) = applied_means words came kept from to old new before behind result form h
 means words came kept from to old new before behind result (shows shown form same h) = showed_means words shown kept from to old new before behind result form same h
+means words came kept from to old new before behind result (checks check c h) = checks_dump check (checked_means from to old new result h)
 
 -- ---- each cause has its status
 other_words_end : (words : List (List ℕ)) (came kept : Type 0) (from to : SourceView) (old new : SinkView) (before behind : DiskView) (result : ℕ) → Ending words came kept from to old new before behind result
-    → (AreForm words → ⊥) → (result ≡ 2) ⊎ (result ≡ 6)
-other_words_end words came kept from to old new before behind result (bad_words other c same (said is p)) bad = inl is
-other_words_end words came kept from to old new before behind result (bad_words other c same (unsaid is rose p)) bad = inr is
-other_words_end words came kept from to old new before behind result (applied form h) bad = absurd (bad (Apply, form))
-other_words_end words came kept from to old new before behind result (shows shown form same h) bad = absurd (bad (Show shown, form))
+    → (AreForm words → ⊥) → (IsCheck words → ⊥) → (result ≡ 2) ⊎ (result ≡ 6)
+other_words_end words came kept from to old new before behind result (bad_words other none c same (said is p)) bad not_check = inl is
+other_words_end words came kept from to old new before behind result (bad_words other none c same (unsaid is rose p)) bad not_check = inr is
+other_words_end words came kept from to old new before behind result (applied form h) bad not_check = absurd (bad (Apply, form))
+other_words_end words came kept from to old new before behind result (shows shown form same h) bad not_check = absurd (bad (Show shown, form))
+other_words_end words came kept from to old new before behind result (checks check c h) bad not_check = absurd (not_check check)
+
+-- check is no form with a journal
+no_two : (n : ℕ) → n ≡ 2 → n ≡ 1 → ⊥
+no_two n a b = omega arith
+
+not_form : (words : List (List ℕ)) (form : Form) → IsCheck words → IsForm words form → ⊥
+not_form words form check is = no_two (length words) (ap (λ (ws : List (List ℕ)). length ws) is.words_are) (ap (λ (ws : List (List ℕ)). length ws) check)
 
 -- a form is one form
 one_form : (words : List (List ℕ)) (f g : Form) → IsForm words f → IsForm words g → f ≡ g
@@ -158,7 +187,7 @@ bad_lines_end : (words : List (List ℕ)) (from to : SourceView) (old new : Sink
     → (bytes : List ℕ) (n : ℕ) → IsForm words Apply → from.left ≡ Some bytes → IsFirstBad is_script_line bytes n → length bytes ≤ max_source → (Rose from.faults to.faults → ⊥)
     → (result ≡ 3) ⊎ ((result ≡ 6) ⊎ (result ≡ 8))
 bad_lines_end words from to old new before behind result (runs_well is good read rec) bytes n form e bad short calm = absurd (input_not_bad words from to bytes n form e bad good)
-bad_lines_end words from to old new before behind result (has_other_words is other) bytes n form e bad short calm = absurd (other (Apply, form))
+bad_lines_end words from to old new before behind result (has_other_words is other none) bytes n form e bad short calm = absurd (other (Apply, form))
 bad_lines_end words from to old new before behind result (has_bad_line is f k read) bytes n form e bad short calm = inl is
 bad_lines_end words from to old new before behind result (has_bad_gate is good offset at) bytes n form e bad short calm = absurd (input_not_bad words from to bytes n form e bad good)
 bad_lines_end words from to old new before behind result (source_failed is f rose) bytes n form e bad short calm = absurd (calm rose)
@@ -166,11 +195,12 @@ bad_lines_end words from to old new before behind result (sink_failed is rose) b
 bad_lines_end words from to old new before behind result (disk_failed is good rose) bytes n form e bad short calm = absurd (input_not_bad words from to bytes n form e bad good)
 bad_lines_end words from to old new before behind result (wants_memory is f) bytes n form e bad short calm = inr (inr is)
 bad_lines_end words from to old new before behind result (is_too_long is f more) bytes n form e bad short calm = absurd (not_both from.left bytes max_source e more short)
+bad_lines_end words from to old new before behind result (checks_dump check h) bytes n form e bad short calm = absurd (not_form words Apply check form)
 
 long_sources_end : (words : List (List ℕ)) (from to : SourceView) (old new : SinkView) (before behind : DiskView) (result : ℕ) → Means words from to old new before behind result
     → (bytes : List ℕ) → IsForm words Apply → from.left ≡ Some bytes → max_source < length bytes → (Rose from.faults to.faults → ⊥) → (result ≡ 9) ⊎ ((result ≡ 6) ⊎ (result ≡ 8))
 long_sources_end words from to old new before behind result (runs_well is good read rec) bytes form e more calm = absurd (input_not_long words from to bytes form e more good)
-long_sources_end words from to old new before behind result (has_other_words is other) bytes form e more calm = absurd (other (Apply, form))
+long_sources_end words from to old new before behind result (has_other_words is other none) bytes form e more calm = absurd (other (Apply, form))
 long_sources_end words from to old new before behind result (has_bad_line is f k read) bytes form e more calm = absurd (short_and_long from.left bytes max_source e read.short more)
 long_sources_end words from to old new before behind result (has_bad_gate is good offset at) bytes form e more calm = absurd (input_not_long words from to bytes form e more good)
 long_sources_end words from to old new before behind result (source_failed is f rose) bytes form e more calm = absurd (calm rose)
@@ -178,6 +208,7 @@ long_sources_end words from to old new before behind result (sink_failed is rose
 long_sources_end words from to old new before behind result (disk_failed is good rose) bytes form e more calm = absurd (input_not_long words from to bytes form e more good)
 long_sources_end words from to old new before behind result (wants_memory is f) bytes form e more calm = inr (inr is)
 long_sources_end words from to old new before behind result (is_too_long is f some) bytes form e more calm = inl is
+long_sources_end words from to old new before behind result (checks_dump check h) bytes form e more calm = absurd (not_form words Apply check form)
 
 good_not_bad : (words : List (List ℕ)) (from to : SourceView) (form : Form) (n : ℕ) → IsForm words form → IsForm words Apply → IsGoodInput form from → WasRead (λ bytes. IsFirstBad is_script_line bytes n) from to → ⊥
 good_not_bad words from to form n f g good read =
@@ -193,7 +224,7 @@ bad_gates_end : (words : List (List ℕ)) (from to : SourceView) (old new : Sink
     → (form : Form) (offset : ℕ) → IsForm words form → IsGoodInput form from → before.tells → IsBadAt standard before.seen offset → (Rose from.faults to.faults → ⊥) → (Rose before.faults behind.faults → ⊥)
     → (result ≡ 4) ⊎ ((result ≡ 6) ⊎ (result ≡ 8))
 bad_gates_end words from to old new before behind result (runs_well is good read rec) form offset f g tells bad calm still = absurd (stands_not_bad standard before.seen read offset (rec tells) bad)
-bad_gates_end words from to old new before behind result (has_other_words is other) form offset f g tells bad calm still = absurd (other (form, f))
+bad_gates_end words from to old new before behind result (has_other_words is other none) form offset f g tells bad calm still = absurd (other (form, f))
 bad_gates_end words from to old new before behind result (has_bad_line is a k read) form offset f g tells bad calm still = absurd (good_not_bad words from to form k f a g read)
 bad_gates_end words from to old new before behind result (has_bad_gate is good at gate) form offset f g tells bad calm still = inl is
 bad_gates_end words from to old new before behind result (source_failed is a rose) form offset f g tells bad calm still = absurd (calm rose)
@@ -201,12 +232,13 @@ bad_gates_end words from to old new before behind result (sink_failed is rose) f
 bad_gates_end words from to old new before behind result (disk_failed is good rose) form offset f g tells bad calm still = absurd (still rose)
 bad_gates_end words from to old new before behind result (wants_memory is a) form offset f g tells bad calm still = inr (inr is)
 bad_gates_end words from to old new before behind result (is_too_long is a more) form offset f g tells bad calm still = absurd (good_not_long words from form f a g more)
+bad_gates_end words from to old new before behind result (checks_dump check h) form offset f g tells bad calm still = absurd (not_form words form check f)
 
 good_runs_end : (words : List (List ℕ)) (from to : SourceView) (old new : SinkView) (before behind : DiskView) (result : ℕ) → Means words from to old new before behind result
     → (form : Form) (read : List Entry) → IsForm words form → IsGoodInput form from → before.tells → StandsFor standard before.seen read → (Rose from.faults to.faults → ⊥)
     → (Rose old.faults new.faults → ⊥) → (Rose before.faults behind.faults → ⊥) → (result ≤ 1) ⊎ (result ≡ 8)
 good_runs_end words from to old new before behind result (runs_well is good r rec) form read f g tells stands calm quiet still = inl is
-good_runs_end words from to old new before behind result (has_other_words is other) form read f g tells stands calm quiet still = absurd (other (form, f))
+good_runs_end words from to old new before behind result (has_other_words is other none) form read f g tells stands calm quiet still = absurd (other (form, f))
 good_runs_end words from to old new before behind result (has_bad_line is a k r) form read f g tells stands calm quiet still = absurd (good_not_bad words from to form k f a g r)
 good_runs_end words from to old new before behind result (has_bad_gate is good at gate) form read f g tells stands calm quiet still = absurd (stands_not_bad standard before.seen read at stands (gate tells))
 good_runs_end words from to old new before behind result (source_failed is a rose) form read f g tells stands calm quiet still = absurd (calm rose)
@@ -214,6 +246,44 @@ good_runs_end words from to old new before behind result (sink_failed is rose) f
 good_runs_end words from to old new before behind result (disk_failed is good rose) form read f g tells stands calm quiet still = absurd (still rose)
 good_runs_end words from to old new before behind result (wants_memory is a) form read f g tells stands calm quiet still = inr is
 good_runs_end words from to old new before behind result (is_too_long is a more) form read f g tells stands calm quiet still = absurd (good_not_long words from form f a g more)
+good_runs_end words from to old new before behind result (checks_dump check h) form read f g tells stands calm quiet still = absurd (not_form words form check f)
+
+-- a dump
+long_dumps_end : (words : List (List ℕ)) (from to : SourceView) (old new : SinkView) (before behind : DiskView) (result : ℕ) → Means words from to old new before behind result
+    → (bytes : List ℕ) → IsCheck words → from.left ≡ Some bytes → max_source < length bytes → (Rose from.faults to.faults → ⊥) → (result ≡ 9) ⊎ ((result ≡ 6) ⊎ (result ≡ 8))
+long_dumps_end words from to old new before behind result (runs_well is good read rec) bytes c e more calm = absurd (not_form words good.0 c good.1)
+long_dumps_end words from to old new before behind result (has_other_words is other none) bytes c e more calm = absurd (none c)
+long_dumps_end words from to old new before behind result (has_bad_line is f k read) bytes c e more calm = absurd (not_form words Apply c f)
+long_dumps_end words from to old new before behind result (has_bad_gate is good at gate) bytes c e more calm = absurd (not_form words good.0 c good.1)
+long_dumps_end words from to old new before behind result (source_failed is f rose) bytes c e more calm = absurd (not_form words Apply c f)
+long_dumps_end words from to old new before behind result (sink_failed is rose) bytes c e more calm = inr (inl is)
+long_dumps_end words from to old new before behind result (disk_failed is good rose) bytes c e more calm = absurd (not_form words good.0 c good.1)
+long_dumps_end words from to old new before behind result (wants_memory is f) bytes c e more calm = inr (inr is)
+long_dumps_end words from to old new before behind result (is_too_long is f some) bytes c e more calm = absurd (not_form words Apply c f)
+long_dumps_end words from to old new before behind result (checks_dump check (is_reported is read)) bytes c e more calm = absurd (short_and_long from.left bytes max_source e read.short more)
+long_dumps_end words from to old new before behind result (checks_dump check (has_bad_dump_line is read)) bytes c e more calm = absurd (short_and_long from.left bytes max_source e read.short more)
+long_dumps_end words from to old new before behind result (checks_dump check (dump_source_failed is rose)) bytes c e more calm = absurd (calm rose)
+long_dumps_end words from to old new before behind result (checks_dump check (dump_sink_failed is rose)) bytes c e more calm = inr (inl is)
+long_dumps_end words from to old new before behind result (checks_dump check (dump_wants_memory is)) bytes c e more calm = inr (inr is)
+long_dumps_end words from to old new before behind result (checks_dump check (dump_is_too_long is some)) bytes c e more calm = inl is
+
+short_dumps_end : (words : List (List ℕ)) (from to : SourceView) (old new : SinkView) (before behind : DiskView) (result : ℕ) → Means words from to old new before behind result
+    → (bytes : List ℕ) → IsCheck words → from.left ≡ Some bytes → length bytes ≤ max_source → (Rose from.faults to.faults → ⊥) → (Rose old.faults new.faults → ⊥) → (result ≤ 1) ⊎ ((result ≡ 3) ⊎ (result ≡ 8))
+short_dumps_end words from to old new before behind result (runs_well is good read rec) bytes c e short calm quiet = inl is
+short_dumps_end words from to old new before behind result (has_other_words is other none) bytes c e short calm quiet = absurd (none c)
+short_dumps_end words from to old new before behind result (has_bad_line is f k read) bytes c e short calm quiet = inr (inl is)
+short_dumps_end words from to old new before behind result (has_bad_gate is good at gate) bytes c e short calm quiet = absurd (not_form words good.0 c good.1)
+short_dumps_end words from to old new before behind result (source_failed is f rose) bytes c e short calm quiet = absurd (calm rose)
+short_dumps_end words from to old new before behind result (sink_failed is rose) bytes c e short calm quiet = absurd (quiet rose)
+short_dumps_end words from to old new before behind result (disk_failed is good rose) bytes c e short calm quiet = absurd (not_form words good.0 c good.1)
+short_dumps_end words from to old new before behind result (wants_memory is f) bytes c e short calm quiet = inr (inr is)
+short_dumps_end words from to old new before behind result (is_too_long is f some) bytes c e short calm quiet = absurd (not_form words Apply c f)
+short_dumps_end words from to old new before behind result (checks_dump check (is_reported is read)) bytes c e short calm quiet = inl is
+short_dumps_end words from to old new before behind result (checks_dump check (has_bad_dump_line is read)) bytes c e short calm quiet = inr (inl is)
+short_dumps_end words from to old new before behind result (checks_dump check (dump_source_failed is rose)) bytes c e short calm quiet = absurd (calm rose)
+short_dumps_end words from to old new before behind result (checks_dump check (dump_sink_failed is rose)) bytes c e short calm quiet = absurd (quiet rose)
+short_dumps_end words from to old new before behind result (checks_dump check (dump_wants_memory is)) bytes c e short calm quiet = inr (inr is)
+short_dumps_end words from to old new before behind result (checks_dump check (dump_is_too_long is some)) bytes c e short calm quiet = absurd (not_both from.left bytes max_source e some short)
 
 pub complete : (words : List (List ℕ)) (came kept : Type 0) (from to : SourceView) (old new : SinkView) (before behind : DiskView) (result : ℕ) → Ending words came kept from to old new before behind result
     → IsComplete words from to old new before behind result
@@ -225,4 +295,6 @@ complete words came kept from to old new before behind result h =
       long_sources = long_sources_end words from to old new before behind result m;
       bad_gates = bad_gates_end words from to old new before behind result m;
       good_runs = good_runs_end words from to old new before behind result m;
+      long_dumps = long_dumps_end words from to old new before behind result m;
+      short_dumps = short_dumps_end words from to old new before behind result m;
     }

@@ -20,9 +20,11 @@ use Rattle.topo.specs.declared.words.Shown.{Shown}
 use Rattle.topo.specs.declared.words.Shown.TheVariants.{Tables, Features, History}
 use Rattle.topo_recover.specs.declared.end.RecoverEnd.{RecoverEnd}
 use Rattle.topo_recover.specs.declared.end.RecoverEnd.TheVariants.{NoJournal, DiskFault, Memory}
-use Rattle.topo.specs.Words.{IsForm, AreForm}
+use Rattle.topo.specs.Words.{IsForm, AreForm, IsCheck}
+use Rattle.validate_topology.specs.declared.lines.ReportLine.{ReportLine}
+use Rattle.table_dump.specs.ReportText.{report_text}
 use Rattle.topo.specs.Views.{SourceView, SinkView, DiskView}
-use Rattle.topo.specs.Output.{Says, Tells, IsCutBy, Prints, due, all_but_last, fault_line, journal_line}
+use Rattle.topo.specs.Output.{Says, Tells, IsCutBy, Prints, due, all_but_last, fault_line, journal_line, report_status}
 use Rattle.topo.specs.Run.{opening, AreAnswered, AreTried, IsSoundHistory, IsRightRun, RoseBy, faults_in, has_fault, status_of}
 
 -- the limits of the program
@@ -121,8 +123,18 @@ pub data Showed (shown : Shown) (kept : Type 0) (old new : SinkView) (before beh
   showed : kept → (read : List Entry) → WasRecovered before read → IsSoundHistory standard read → behind.faults ≡ before.faults
       → Prints old new (shown_text shown read) 0 result → Showed shown kept old new before behind result
 
+-- a dump that is reported on: its lines are those of a report, and the status is 0 where there are none
+pub data Checked (from to : SourceView) (old new : SinkView) (result : ℕ) : Type 0 where
+  dump_fault : Rose from.faults to.faults → Says old new (codes "fault source\n") 5 result → Checked from to old new result
+  dump_too_long : IfSome from.left (λ bytes. max_source < length bytes) → Says old new (codes "fault long\n") 9 result → Checked from to old new result
+  dump_not_read : result ≡ 8 → Appends old.written new.written [] → Checked from to old new result
+  bad_dump_line : (n : ℕ) → WasRead (λ bytes. Unit {0}) from to → Tells old new (fault_line n) 3 result → Checked from to old new result
+  no_report : WasRead (λ bytes. Unit {0}) from to → result ≡ 8 → Appends old.written new.written [] → Checked from to old new result
+  reported : (lines : List ReportLine) → WasRead (λ bytes. Unit {0}) from to → Prints old new (report_text lines) (report_status lines) result → Checked from to old new result
+
 -- any words
 pub data Ending (words : List (List ℕ)) (came kept : Type 0) (from to : SourceView) (old new : SinkView) (before behind : DiskView) (result : ℕ) : Type 0 where
-  bad_words : (AreForm words → ⊥) → came → to ≡ from → Says old new (codes "fault words\n") 2 result → Ending words came kept from to old new before behind result
+  bad_words : (AreForm words → ⊥) → (IsCheck words → ⊥) → came → to ≡ from → Says old new (codes "fault words\n") 2 result → Ending words came kept from to old new before behind result
   applied : IsForm words Apply → Applied came kept from to old new before behind result → Ending words came kept from to old new before behind result
   shows : (shown : Shown) → IsForm words (Show shown) → to ≡ from → Showed shown kept old new before behind result → Ending words came kept from to old new before behind result
+  checks : IsCheck words → came → Checked from to old new result → Ending words came kept from to old new before behind result

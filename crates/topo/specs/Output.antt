@@ -8,6 +8,7 @@ use Rattle.topo_io.specs.Causes.{Rose}
 use Rattle.topo_io.specs.Sinks.{AppendsFront}
 use Rattle.drawing.specs.Replay.{replay}
 use Rattle.script_model.specs.Texts.{replies_text, tables_text}
+use Rattle.validate_topology.specs.declared.lines.ReportLine.{ReportLine}
 use Rattle.topo.specs.Views.{SinkView}
 
 -- the lines that name what is bad
@@ -20,6 +21,11 @@ journal_line offset = codes "fault journal " ++ decimal offset ++ 10 ∷ []
 -- the text that is due: the line of each answer, and the tables of the history
 abbrev pub due : List Entry → List Answer → List ℕ
 due history given = replies_text given ++ tables_text (replay history)
+
+-- the status of a report: 0 where it has no lines, and else 1
+abbrev pub report_status : List ReportLine → ℕ
+report_status [] = 0
+report_status (line ∷ lines) = 1
 
 -- all answers but the last
 abbrev pub all_but_last : List Answer → List Answer

@@ -9,10 +9,11 @@ use Rattle.topo_base.specs.declared.answer.Answer.TheVariants.{Unbound, DiskFaul
 use Rattle.history_model.specs.Answers.{Bounds}
 use Rattle.script_model.specs.Bindings.{Names, no_names, bound, ids_of, resolve}
 use Rattle.history_model.specs.Legal.{is_legal}
-use Rattle.drawing.specs.Replay.{replay}
+use Rattle.drawing.specs.Replay.{after, replay}
 use Rattle.history_model.specs.Run.{AreRight, is_done}
 use Rattle.topo_model.specs.ScriptRun.{script_edits, script_history, answers_given}
 use Rattle.drawing.specs.Subdivision.{IsSubdivision}
+use Rattle.point_laws.specs.PointsStay.{KeepsPoints, leaves_points}
 use Rattle.reference_laws.specs.Referenced.{IsReferenced}
 use Rattle.topo_desk.specs.Verdict.{IsTried, history_after}
 
@@ -67,11 +68,12 @@ AreTried m s (l ∷ ls) (answer ∷ given) =
     ((answer ≡ Memory) × (given ≡ [])) ⊎ (IsLineTried m s l answer × AreTried m (standing_after s l answer) ls given)
 
 -- ---- what holds of every run behind a history that was read
--- after each entry the drawing is a planar subdivision, in which all that a row names is listed
+-- after each entry the drawing is a planar subdivision, in which all that a row names is listed; and an entry that moves no node, and doesn't change what a feature lists, leaves the points of each feature that is there before and after it
 pub record IsSoundHistory (m : Bounds) (history : List Entry) : Type 0 where
   pub legal : IsTrue (is_legal m.max_id m.max_journal history)
   pub subdivision : (n : ℕ) → IsSubdivision (replay (take n history))
   pub referenced : (n : ℕ) → IsReferenced (replay (take n history))
+  pub points : (front rest : List Entry) (x : Entry) → history ≡ front ++ x ∷ rest → IsTrue (leaves_points x.edit) → KeepsPoints (replay front) (after (replay front) x.edit)
 
 -- the history goes on with an entry for each answer Done, in order; it is legal; each answer is right on it, after what was answered before
 pub record IsRightRun (m : Bounds) (read history : List Entry) (ls : List ScriptLine) (given : List Answer) : Type 0 where

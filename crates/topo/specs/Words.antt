@@ -25,3 +25,7 @@ pub record IsForm (words : List (List ℕ)) (form : Form) : Type 0 where
 -- the words are a form of the program
 abbrev pub AreForm : List (List ℕ) → Type 0
 AreForm words = (form : Form) × IsForm words form
+
+-- the words ask for a report on a dump; this form has no journal
+abbrev pub IsCheck : List (List ℕ) → Type 0
+IsCheck words = words ≡ codes "check" ∷ []

@@ -5,6 +5,7 @@
 #![tactic(auto)]
 
 mod apply;
+mod check;
 mod copies;
 mod end;
 mod run;

@@ -1,5 +1,5 @@
-ghost use Rattle.std.specs.Prelude.{◌≡◌, ◌∷◌, [], map, string_bytes, IfSome, IfNone};
-ghost use Rattle.topo.specs.Words.{IsForm, AreForm, names_journal, verb_of};
+ghost use Rattle.std.specs.Prelude.{◌≡◌, ◌↔◌, ◌∷◌, [], codes, map, string_bytes, IfSome, IfNone, IsTrue};
+ghost use Rattle.topo.specs.Words.{IsCheck, IsForm, AreForm, names_journal, verb_of};
 
 /// What a form shows of a journal.
 #[derive(Clone, Copy, Debug, PartialEq, Eq)]
@@ -70,5 +70,25 @@ pub fn journal_word(words: &[String]) -> Option<&String>
     match form_of(words) {
         Some(_) => words.get(1),
         None => None,
+    }
+}
+
+/// Whether this is the word that asks for a report on a dump.
+fn is_check_word(verb: &str) -> bool
+    ensures { IsTrue result ↔ verb.now ≡ codes "check" }
+{
+    match verb {
+        "check" => true,
+        _ => false,
+    }
+}
+
+/// Whether the words are the one that asks for a report on a dump.
+pub fn is_check(words: &[String]) -> bool
+    ensures { IsTrue result ↔ IsCheck (map string_bytes words.now) }
+{
+    match words {
+        [verb] => is_check_word(verb.as_str()),
+        _ => false,
     }
 }

@@ -1,4 +1,4 @@
 use Rattle.topogeom_points.proofs.tests.a_layer_comes.Given as goal
 
-abbrev pub ghosts-layers_come : goal.ghosts-layers_come
-ghosts-layers_come g a = record { name = a.blank.name; parts = a.blank.parts }
+abbrev pub ghosts-on_nothing : goal.ghosts-on_nothing
+ghosts-on_nothing g a = record { name = a.blank.name; parts = a.blank.parts }

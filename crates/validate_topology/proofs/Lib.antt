@@ -1,0 +1,4 @@
+pub mod Ascending
+pub mod InOrder
+pub mod Lookups
+pub mod Pushing

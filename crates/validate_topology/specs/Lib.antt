@@ -1,0 +1,9 @@
+pub mod Ascending
+pub mod Following
+pub mod OnlyIf
+pub mod Pairs
+pub mod PlainLines
+pub mod Raw
+pub mod References
+pub mod RelationLines
+pub mod Stages

@@ -1,0 +1,36 @@
+//! A report on tables from anywhere: what keeps them from standing for a planar subdivision, and where.
+//!
+//! It stands on the exact tests of `grid_segments`, `grid_lines`, `grid_angle` and `grid_rays`, and on the tables of
+//! `drawing`. It promises the lines on ids and references, and those on the ends and lines of edges, exactly as
+//! `specs/` defines them. The lines on crossings, links, rings, faces and boxes have no clause. Reading dumps and
+//! printing lines is left to `table_dump`.
+#![tactic(auto)]
+
+mod above;
+mod ceiling;
+mod counters;
+mod crossing;
+mod layer_lines;
+mod lines;
+mod link_lines;
+mod pairs;
+mod pieces;
+mod place_lines;
+mod plain_lines;
+mod raw;
+mod references;
+mod relation_lines;
+mod reporting;
+mod ring_lines;
+mod sides;
+mod stars;
+mod sweep;
+mod table;
+#[cfg(test)]
+mod tests;
+mod walks;
+
+pub use lines::{Report, ReportLine};
+pub use raw::{RawTables, RelationRows};
+pub use reporting::report;
+pub use table::{Row, Rows};

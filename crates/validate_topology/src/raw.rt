@@ -1,0 +1,96 @@
+ghost use Rattle.std.specs.Prelude.{◌≡◌, []};
+ghost use Rattle.drawing.specs.Relations.{row_before};
+
+use crate::table::Rows;
+use std::alloc::Global;
+use std::marker::Model;
+use topo_base::{
+    Box4, Counters, EdgeRow, FaceRow, FeatureRow, LayerRow, Memory, NodeRow, RelationRow,
+};
+
+/// The rows of the relation table, by feature, then type, then element, each once. Contracts see the list of them.
+#[derive(Drop)]
+pub struct RelationRows {
+    rows: Vec<RelationRow>,
+}
+
+impl Model for RelationRows {
+    ghost use Rattle.std.specs.Prelude.{List};
+    ghost use Rattle.topo_base.specs.declared.rows.RelationRow.{RelationRow as RowValue};
+
+    ghost Value = { List RowValue };
+
+    ghost view = { λ r. r.rows.items };
+}
+
+/// Whether a row comes before another: by feature, then by type, then by element.
+fn comes_before(a: &RelationRow, b: &RelationRow) -> bool
+    ensures { result ≡ row_before a.now b.now }
+{
+    if a.topogeo_id.0 < b.topogeo_id.0 {
+        return true;
+    }
+    if a.topogeo_id.0 == b.topogeo_id.0 && a.element_type < b.element_type {
+        return true;
+    }
+    a.topogeo_id.0 == b.topogeo_id.0
+        && a.element_type == b.element_type
+        && a.element_id < b.element_id
+}
+
+impl RelationRows {
+    /// No rows. Takes no memory.
+    pub fn new(alloc: Global) -> RelationRows
+        ensures { result ≡ [] }
+    {
+        RelationRows {
+            rows: Vec::new(alloc),
+        }
+    }
+
+    /// The rows in order.
+    pub fn rows(&self) -> &[RelationRow]
+        ensures { result.now ≡ self.now }
+    {
+        &self.rows
+    }
+
+    /// Puts a row behind the others, where it comes after them, and says whether it was.
+    pub fn push(&mut self, row: RelationRow) -> Result<bool, Memory> {
+        if let Some(last) = self.rows.last()
+            && !comes_before(last, &row)
+        {
+            return Ok(false);
+        }
+        self.rows.push(row)?;
+        Ok(true)
+    }
+}
+
+/// The tables as a dump has them: rows with links and boxes, whatever they say. Face 0, which every dump has and
+/// which has no box, isn't among the faces.
+#[derive(Drop)]
+pub struct RawTables {
+    pub next: Counters,
+    pub nodes: Rows<NodeRow>,
+    pub edges: Rows<EdgeRow>,
+    pub faces: Rows<FaceRow>,
+    pub layers: Rows<LayerRow>,
+    pub features: Rows<FeatureRow>,
+    pub relations: RelationRows,
+}
+
+impl RawTables {
+    /// The tables with these next ids, and no rows but face 0. Takes no memory.
+    pub fn new(alloc: Global, next: Counters) -> RawTables {
+        RawTables {
+            next,
+            nodes: Rows::new(alloc),
+            edges: Rows::new(alloc),
+            faces: Rows::new(alloc),
+            layers: Rows::new(alloc),
+            features: Rows::new(alloc),
+            relations: RelationRows::new(alloc),
+        }
+    }
+}
