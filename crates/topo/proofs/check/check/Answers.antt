@@ -1,4 +1,4 @@
-use Rattle.std.proofs.Common.{◌≤◌, ℕ, List, length}
+use Rattle.std.proofs.Common.{◌≤◌, length}
 use Rattle.topo.specs.Endings.{max_source, bad_dump_line, reported}
 use Rattle.topo.proofs.Statuses.{some_any, whole_at}
 use Rattle.topo.proofs.check.check.Goals as goal

@@ -1,7 +1,6 @@
 use Rattle.std.proofs.Common.{map, refl, subst}
 use Rattle.std.specs.Prelude.{string_bytes}
 use Rattle.topo.specs.declared.words.Form.{Form}
-use Rattle.topo.specs.declared.words.Form.TheVariants.{Apply, Show}
 use Rattle.topo.specs.Endings.{applied, shows}
 use Rattle.topo.specs.Words.{IsForm}
 use Rattle.topo.proofs.solo.solo_counted.Goals as goal
