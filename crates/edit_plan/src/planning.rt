@@ -1,11 +1,13 @@
 // The plan of each edit.
-ghost use Rattle.std.specs.Prelude.{◌≡◌};
+ghost use Rattle.std.specs.Prelude.{◌≡◌, IfOk, IsTrue};
 ghost use Rattle.read_set.specs.Answered.{IsAnswered};
 ghost use Rattle.read_set.specs.Edited.{AnswersOutcome};
 ghost use Rattle.read_set.specs.Planned.{IsEditor};
 ghost use Rattle.read_set.specs.Ready.{IsReady};
 ghost use Rattle.ring_laws.specs.Ringed.{IsRinged};
+ghost use Rattle.drawing.specs.Accepted.{keeps_limits};
 ghost use Rattle.drawing.specs.Step.{step};
+ghost use Rattle.edit_plan.specs.Kept.{KeepsDrawing};
 ghost use Rattle.drawing.specs.Tables.{drawn, tables_of};
 
 use edge_heal::heal_edges;
@@ -83,10 +85,8 @@ fn edited<L: Ledger>(
     }
 }
 
-/// Plans the edit on an excerpt of whole tables, by the rules of its function in the standard. Refused
-/// comes exactly where a rule refuses it on the excerpt's drawing: by that rule, with the excerpt's
-/// front. Nothing is changed.
-pub fn plan<L: Ledger>(
+/// The plan of what the edit does.
+fn planned<L: Ledger>(
     alloc: Global,
     excerpt: Excerpt,
     edit: Edit,
@@ -107,4 +107,25 @@ pub fn plan<L: Ledger>(
         }),
         Err(EditEnd::Memory) => Err(PlanEnd::Memory),
     }
+}
+
+/// Plans the edit on an excerpt of whole tables, by the rules of its function in the standard. Refused
+/// comes exactly where a rule refuses it on the excerpt's drawing: by that rule, with the excerpt's
+/// front. Nothing is changed. The plan's writes keep a planar subdivision one, and the points of features,
+/// where the edit is within the limits.
+pub fn plan<L: Ledger>(
+    alloc: Global,
+    excerpt: Excerpt,
+    edit: Edit,
+    editor: u32,
+    steps: &mut Steps<L>,
+) -> Result<Plan, PlanEnd>
+    requires editor { IsEditor editor }
+    requires ready { IsReady (drawn excerpt.rows) }
+    requires ringed { IsRinged (drawn excerpt.rows) }
+    requires stands { excerpt.rows ≡ tables_of (drawn excerpt.rows) }
+    ensures answer { IsAnswered editor edit excerpt result }
+    ensures kept { IfOk result (λ p. IsTrue (keeps_limits edit) → KeepsDrawing (drawn excerpt.rows) edit p.writes) }
+{
+    planned(alloc, excerpt, edit, editor, steps)
 }
