@@ -1,5 +1,5 @@
 //! Directions about a grid point, in clockwise order. It stands on the products of `topo_base` and
-//! on the order of directions of `topo_model`. Each answer is exact: it is found by signs of
+//! on the order of directions of `plane`. Each answer is exact: it is found by signs of
 //! products of whole numbers. Which half-edge has a direction is left to others.
 #![tactic(auto)]
 

@@ -2,7 +2,7 @@
 //! is split at a point or joined to another.
 //!
 //! It stands on the tests of `grid_segments`, so each answer is exact, and on the sentences of
-//! `topo_model` on rational points, which its contracts cite beside the tests by which an edit is
+//! `plane` on rational points, which its contracts cite beside the tests by which an edit is
 //! decided. Faces, rays and the nodes at a line's ends are left to the crates above.
 #![tactic(auto)]
 

@@ -1,7 +1,7 @@
 //! Segments between grid points: how two of them lie to one another, on which side of one a point
 //! lies, and whether a point lies on one. Each answer is exact, however flat the segments cross:
 //! areas are taken in 128 bits, and nothing is rounded. Stands on the points of `topo_base` and on
-//! the sentences of `topo_model` on rational points. No call takes memory. Lines of several
+//! the sentences of `plane` on rational points. No call takes memory. Lines of several
 //! segments are left to the crates above.
 #![tactic(auto)]
 

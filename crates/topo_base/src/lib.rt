@@ -2,7 +2,7 @@
 //! functions of PostGIS Topology (SQL/MM Topo-Geo).
 //!
 //! It stands on std alone. It promises that data is in range where its type says so, and exact products
-//! of coordinates. What an edit does is left to the definitions of `topo_model`, and where rows are kept
+//! of coordinates. What an edit does is left to the definitions of `edit_changes`, and where rows are kept
 //! to `topo_tables`.
 #![tactic(auto)]
 
