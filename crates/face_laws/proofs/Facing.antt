@@ -39,14 +39,19 @@ pub record HasSides (S : Drawing) : Type 0 where
   pub universe : IsTrue (has_face S 0)
   pub listed : (e : Edge) → Contains S.edges e → IsTrue (has_face S e.left_face) × IsTrue (has_face S e.right_face)
 
-pub step_listed : (S : Drawing) (s : Segment) → HasSides S → In s (steps_of S) → IsTrue (has_face S (face_on_left (half_edges S) s))
-step_listed S s h i =
+-- the face on the left of a step is listed where the sides of edges are
+pub left_listed : (S : Drawing) (s : Segment) → GivesFaces (face_on_left (half_edges S)) S.edges → ((e : Edge) → Contains S.edges e → IsTrue (has_face S e.left_face) × IsTrue (has_face S e.right_face)) →
+    In s (steps_of S) → IsTrue (has_face S (face_on_left (half_edges S) s))
+left_listed S s faces sides i =
     let e = step_edge S.edges s (in_contains s (steps_of S) i) in
-    let listed = h.listed e.0 e.1.0 in
+    let listed = sides e.0 e.1.0 in
     ⊎_elim
-    (λ (c : Contains (segments_of e.0.geom) s). subst (λ f. IsTrue (has_face S f)) (sym (h.faces.forward e.0 s e.1.0 c)) listed.0)
-    (λ (c : Contains (segments_of (reverse e.0.geom)) s). subst (λ f. IsTrue (has_face S f)) (sym (h.faces.backward e.0 s e.1.0 c)) listed.1)
+    (λ (c : Contains (segments_of e.0.geom) s). subst (λ f. IsTrue (has_face S f)) (sym (faces.forward e.0 s e.1.0 c)) listed.0)
+    (λ (c : Contains (segments_of (reverse e.0.geom)) s). subst (λ f. IsTrue (has_face S f)) (sym (faces.backward e.0 s e.1.0 c)) listed.1)
     e.1.1
+
+pub step_listed : (S : Drawing) (s : Segment) → HasSides S → In s (steps_of S) → IsTrue (has_face S (face_on_left (half_edges S) s))
+step_listed S s h i = left_listed S s h.faces h.listed i
 
 -- the one face that has a point
 some_face : (S : Drawing) (q : RationalPoint) → HasSides S → (g : ℕ) × (IsOnlyIn S q g × IsTrue (has_face S g))
@@ -76,11 +81,15 @@ sees_face S d m q h i inside left sees = in_by S q (face_on_left (half_edges S) 
         ∙ sym (near_left_at (steps_of S) (those (of_face F f) (steps_of S)) d m q h.drawn (sees_left S d m q h.drawn.plain i inside left sees) (world (steps_of S) (of_face F f) h.drawn (h.ringwise f n)).rings.even (those_within (of_face F f) (steps_of S)))
         ∙ h.sided f n d i
 
-right_back : (s : Segment) (q : RationalPoint) → IsRightOf q s → IsLeftOf q (back s)
-right_back s q h = let e = turned (s.b.x) (s.b.y) s.a.x s.a.y q.x q.y q.d in let k : area_at s.a s.b q <ℤ pos 0 = h in omega (arith, signed)
+-- left of a segment is right of it walked back
+pub area_back : (s : Segment) (q : RationalPoint) → area_at s.b s.a q ≡ neg_ℤ (area_at s.a s.b q)
+area_back s q = turned s.b.x s.b.y s.a.x s.a.y q.x q.y q.d
   where
     turned : (bx by ax ay x y d : ℤ) → (ax -ℤ bx) *ℤ (y -ℤ by *ℤ d) -ℤ (ay -ℤ by) *ℤ (x -ℤ bx *ℤ d) ≡ neg_ℤ ((bx -ℤ ax) *ℤ (y -ℤ ay *ℤ d) -ℤ (by -ℤ ay) *ℤ (x -ℤ ax *ℤ d))
     turned bx by ax ay x y d = simp multiplied (omega (arith, signed))
+
+right_back : (s : Segment) (q : RationalPoint) → IsRightOf q s → IsLeftOf q (back s)
+right_back s q h = let e = area_back s q in let k : area_at s.a s.b q <ℤ pos 0 = h in omega (arith, signed)
 
 pub is_faced : (S : Drawing) → HasSides S → ((n : NodeRow) (f : ℕ) → Contains S.nodes n → n.containing_face ≡ Some f → face_at S n.geom ≡ f) → IsFaced S
 is_faced S h isolated = record {

@@ -111,7 +111,7 @@ left_is_off s q m left on same =
         ∙ swap q.d (area_at s.a s.b m)
 
 -- ---- what a step of a drawing is seen from
-alone_on : (S : Drawing) (d t : Segment) (m : RationalPoint) → Plain (steps_of S) → In d (steps_of S) → In t (steps_of S) → IsInside m d → IsOn m t → (t ≡ d) ⊎ (t ≡ back d)
+pub alone_on : (S : Drawing) (d t : Segment) (m : RationalPoint) → Plain (steps_of S) → In d (steps_of S) → In t (steps_of S) → IsInside m d → IsOn m t → (t ≡ d) ⊎ (t ≡ back d)
 alone_on S d t m plain i j inside on =
     ⊎_elim
     (λ (h : AreApart t d). absurd (h m (on, inside.on)))

@@ -14,6 +14,7 @@ use Rattle.plane.proofs.ListTests.{contains_here, contains_there, contains_cases
 use Rattle.drawing.proofs.Members.{Pairwise, pairwise-filter, ids_differ}
 use Rattle.face_rings.specs.FaceBorder.{HasRings}
 use Rattle.face_rings.proofs.FaceBorders.{has_plain_lines}
+use Rattle.parity_laws.specs.Rings.{In}
 use Rattle.parity_laws.specs.Steps.{left}
 use Rattle.parity_laws.specs.Shelling.{IsShellOf, OneShell, NoShell}
 use Rattle.face_laws.specs.Walked.{steps_of, is_of}
@@ -30,7 +31,7 @@ use Rattle.face_laws.proofs.ShellTests.{shell_at, shell_of_ring, first_on}
 count_cons : {A : Type 0} (p : A → Bool) (x : A) (xs : List A) → count_by p (x ∷ xs) ≡ cond (p x) 1 0 + count_by p xs
 count_cons {A = A} p x xs = sum_by-cons (λ (y : A). cond (p y) 1 0) x xs
 
-count_here : {A : Type 0} (p : A → Bool) (x : A) (xs : List A) (b : Bool) → p x ≡ b → count_by p (x ∷ xs) ≡ cond b 1 0 + count_by p xs
+pub count_here : {A : Type 0} (p : A → Bool) (x : A) (xs : List A) (b : Bool) → p x ≡ b → count_by p (x ∷ xs) ≡ cond b 1 0 + count_by p xs
 count_here p x xs b e = count_cons p x xs ∙ ap (λ c. cond c 1 0 + count_by p xs) e
 
 count_none : {A B : Type 0} (p : B → Bool) (f : A → B) (xs : List A) → ((x : A) → Contains xs x → p (f x) ≡ false) → count_by p (map f xs) ≡ 0
@@ -61,18 +62,20 @@ count_one p f (z ∷ xs) x others h =
     (contains_cases x z xs h.there)
 
 -- ---- shells of the list and shells by parity
-listed_is_shell : (S : Drawing) (f : ℕ) (k : HalfEdge) → HasRings S → Begins S k → is_shell_of f (ring_of (half_edges S) k) ≡ true → IsShellOf (steps_of S) (face_of S) f (is_of (ring_of (half_edges S) k))
+pub listed_is_shell : (S : Drawing) (f : ℕ) (k : HalfEdge) → HasRings S → Begins S k → is_shell_of f (ring_of (half_edges S) k) ≡ true → IsShellOf (steps_of S) (face_of S) f (is_of (ring_of (half_edges S) k))
 listed_is_shell S f k has b e =
     let both = and_parts (list_any (λ (h : HalfEdge). h.on_left == f) (ring_of (half_edges S) k)) (is_shell (ring_of (half_edges S) k)) e in
     let (m, (c, g)) = (Decides-any (λ (h : HalfEdge). h.on_left == f) (λ h. (h.on_left == f) ≡ true) (λ h. (λ t. t, λ t. t)) (ring_of (half_edges S) k)).0 both.0 in
     subst (λ z. IsShellOf (steps_of S) (face_of S) z (is_of (ring_of (half_edges S) k))) (sym (ring_steps S k m has b.there c).left ∙ eqb-true m.on_left f g) (shell_of_ring S k has b.there both.1)
 
-record IsListedShell (S : Drawing) (f : ℕ) : Type 0 where
-  half : HalfEdge
-  begins : Begins S half
-  shell : is_shell_of f (ring_of (half_edges S) half) ≡ true
+-- a shell by parity is the ring of a half-edge of the list
+pub record IsListedShell (S : Drawing) (f : ℕ) (p : Segment → Bool) : Type 0 where
+  pub half : HalfEdge
+  pub begins : Begins S half
+  pub same : (s : Segment) → In s (steps_of S) → p s ≡ is_of (ring_of (half_edges S) half) s
+  pub shell : is_shell_of f (ring_of (half_edges S) half) ≡ true
 
-shell_is_listed : (S : Drawing) (f : ℕ) (p : Segment → Bool) → HasRings S → IsShellOf (steps_of S) (face_of S) f p → IsListedShell S f
+pub shell_is_listed : (S : Drawing) (f : ℕ) (p : Segment → Bool) → HasRings S → IsShellOf (steps_of S) (face_of S) f p → IsListedShell S f p
 shell_is_listed S f p has sh =
     let s = sh.ring.step in
     let (h, (c, i)) = half_with S s sh.ring.there in
@@ -85,6 +88,7 @@ shell_is_listed S f p has sh =
     record {
       half = k;
       begins = l.begins;
+      same = same;
       shell = and_from (list_any (λ (x : HalfEdge). x.on_left == f) ring) (is_shell ring)
           ((Decides-any (λ (x : HalfEdge). x.on_left == f) (λ x. (x.on_left == f) ≡ true) (λ x. (λ t. t, λ t. t)) ring).1
           (h, (l.mine, eq-eqb h.on_left f (sym (left_is S h s (has_plain_lines S has) c i) ∙ sh.face))))
