@@ -22,6 +22,9 @@ use Rattle.edge_heal.specs.Healing.{IsRowOf, heal_done_by}
 use Rattle.read_set.specs.declared.edited.Edited.{Edited}
 use Rattle.edge_split.proofs.SplitDrafts.{row_found}
 use Rattle.edge_split.proofs.SplitPlans.{row_in}
+use Rattle.drawing.specs.Step.{step}
+use Rattle.topo_base.specs.declared.edit.Edit.{Edit}
+use Rattle.topo_base.specs.declared.edit.Edit.TheVariants.{ModEdgeHeal, NewEdgeHeal}
 
 -- ---- the edges
 pub first_missing : (anew : Bool) (t x : Tables) (id : ℕ) (found : Option (Bor EdgeRow)) (other : Option Edge) → t ≡ x → ((row : Bor EdgeRow) → found ≡ Some row → ⊥) → option_copied found ≡ row_at edge_row_id t.edges id
@@ -60,3 +63,11 @@ accepted anew t x e f n same shared unlisted =
     let alike = ap (λ (u : Tables). have_same_features (drawn u) edge_type e.edge_id f.edge_id) (sym same) ∙ shared in
     let free = ap (λ (u : Tables). is_in_feature (drawn u) node_type n) (sym same) ∙ unlisted in
     (λ i. carried_out S (cond (not (alike i)) (Err HealSplitsFeature) (cond (free i) (Err NodeInFeature) (cond anew (Ok (EdgesAreJoinedAnew e f n)) (Ok (EdgesAreJoined e f n)))))) ∙ done_is anew S e f n
+
+-- which edit it is
+abbrev pub edit_of : Bool → ℕ → ℕ → Edit
+edit_of anew edge other = cond anew (NewEdgeHeal edge other) (ModEdgeHeal edge other)
+
+pub step_of : (S : Drawing) (anew : Bool) (edge other : ℕ) → heal_edges anew S (edge_at S edge) (edge_at S other) ≡ step S (edit_of anew edge other)
+step_of S true edge other = refl
+step_of S false edge other = refl

@@ -22,7 +22,7 @@ use std::sync::ledger::Ledger;
 use topo_base::{
     Dart, EdgeId, EdgeRow, Element, Ids, Line, Memory, NodeId, RowId, RowWrite, Steps,
 };
-use topo_tables::{Excerpt, Tables, Writes};
+use topo_tables::{Tables, Writes};
 
 /// The links of the joined edge.
 struct Links {
@@ -172,11 +172,11 @@ fn edge_and_node(edge: EdgeId, node: NodeId) -> Ids
 }
 
 /// The two edges, and the edge of the next id that is to come in their place.
-fn healed_anew(excerpt: &Excerpt, first: &EdgeRow, second: &EdgeRow, node: NodeId) -> Healed
+fn healed_anew(tables: &Tables, first: &EdgeRow, second: &EdgeRow, node: NodeId) -> Healed
     ensures healed { IsHealedAt result first.now second.now node }
-    ensures id { result.id ≡ excerpt.now.rows.next_ids.edge }
+    ensures id { result.id ≡ tables.now.rows.next_ids.edge }
 {
-    let counters = excerpt.tables().counters();
+    let counters = tables.counters();
     Healed {
         first: first.edge_id,
         second: second.edge_id,
@@ -189,24 +189,24 @@ fn healed_anew(excerpt: &Excerpt, first: &EdgeRow, second: &EdgeRow, node: NodeI
 /// as they were.
 fn heal_new_draft<L: Ledger>(
     alloc: Global,
-    excerpt: &Excerpt,
+    tables: &Tables,
     first: &EdgeRow,
     second: &EdgeRow,
     healed: &Healed,
     node: NodeId,
     steps: &mut Steps<L>,
 ) -> Result<Draft, Memory>
-    requires ready { IsReady (drawn excerpt.now.rows) }
-    requires ringed { IsRinged (drawn excerpt.now.rows) }
-    requires stands { excerpt.now.rows ≡ tables_of (drawn excerpt.now.rows) }
-    requires joint { IsJoint (drawn excerpt.now.rows) first.now second.now node }
+    requires ready { IsReady (drawn tables.now.rows) }
+    requires ringed { IsRinged (drawn tables.now.rows) }
+    requires stands { tables.now.rows ≡ tables_of (drawn tables.now.rows) }
+    requires joint { IsJoint (drawn tables.now.rows) first.now second.now node }
     requires healed { IsHealedAt healed.now first.now second.now node }
-    requires id { healed.now.id ≡ excerpt.now.rows.next_ids.edge }
-    ensures draft { IfOk result (λ d. IsDraftOf (drawn excerpt.now.rows) d) }
-    ensures rows { IfOk result (λ d. d.rows ≡ rows_boxed_as (drawn excerpt.now.rows) (new_heal_in (drawn excerpt.now.rows) (drawn_edge first.now) (drawn_edge second.now) node)) }
+    requires id { healed.now.id ≡ tables.now.rows.next_ids.edge }
+    ensures draft { IfOk result (λ d. IsDraftOf (drawn tables.now.rows) d) }
+    ensures rows { IfOk result (λ d. d.rows ≡ rows_boxed_as (drawn tables.now.rows) (new_heal_in (drawn tables.now.rows) (drawn_edge first.now) (drawn_edge second.now) node)) }
 {
-    let writes = heal_writes(alloc, excerpt.tables(), first, second, healed, node)?;
-    let mut draft = Draft::of(alloc, excerpt)?;
+    let writes = heal_writes(alloc, tables, first, second, healed, node)?;
+    let mut draft = Draft::of(alloc, tables)?;
     draft.write_all(alloc, writes, steps)?;
     Ok(draft)
 }
@@ -215,21 +215,21 @@ fn heal_new_draft<L: Ledger>(
 /// SQL/MM says. The features that listed them list the new edge. The only error is want of memory.
 pub fn heal_new<L: Ledger>(
     alloc: Global,
-    excerpt: &Excerpt,
+    tables: &Tables,
     first: &EdgeRow,
     second: &EdgeRow,
     node: NodeId,
     steps: &mut Steps<L>,
 ) -> Result<Tried, Memory>
-    requires ready { IsReady (drawn excerpt.now.rows) }
-    requires ringed { IsRinged (drawn excerpt.now.rows) }
-    requires stands { excerpt.now.rows ≡ tables_of (drawn excerpt.now.rows) }
-    requires joint { IsJoint (drawn excerpt.now.rows) first.now second.now node }
-    ensures { IfOk result (λ d. IsTried (drawn excerpt.now.rows)
-        (heal_new_done (drawn excerpt.now.rows) (drawn_edge first.now) (drawn_edge second.now) node) d) }
+    requires ready { IsReady (drawn tables.now.rows) }
+    requires ringed { IsRinged (drawn tables.now.rows) }
+    requires stands { tables.now.rows ≡ tables_of (drawn tables.now.rows) }
+    requires joint { IsJoint (drawn tables.now.rows) first.now second.now node }
+    ensures { IfOk result (λ d. IsTried (drawn tables.now.rows)
+        (heal_new_done (drawn tables.now.rows) (drawn_edge first.now) (drawn_edge second.now) node) d) }
 {
-    let healed = healed_anew(excerpt, first, second, node);
-    let mut draft = heal_new_draft(alloc, excerpt, first, second, &healed, node, steps)?;
+    let healed = healed_anew(tables, first, second, node);
+    let mut draft = heal_new_draft(alloc, tables, first, second, &healed, node, steps)?;
     follow_both(alloc, &mut draft, &healed, steps)?;
     let ids = edge_and_node(healed.id, node);
     Ok(Tried { draft, ids })

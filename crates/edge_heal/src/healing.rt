@@ -21,7 +21,7 @@ use relation_rows::{follow_merge, listing_of};
 use std::alloc::Global;
 use std::sync::ledger::Ledger;
 use topo_base::{EdgeRow, Element, Hand, Line, Memory, NodeId, RowId, RowWrite, Steps};
-use topo_tables::{Excerpt, Tables, Writes};
+use topo_tables::{Tables, Writes};
 
 /// The write by which the first edge gets the ends and the line of the joined edge.
 fn line_write(first: &EdgeRow, second: &EdgeRow, node: NodeId, line: Line) -> RowWrite
@@ -172,23 +172,23 @@ pub fn healed_into_first(first: &EdgeRow, second: &EdgeRow, node: NodeId) -> Hea
 /// Features are still as they were.
 fn heal_mod_draft<L: Ledger>(
     alloc: Global,
-    excerpt: &Excerpt,
+    tables: &Tables,
     first: &EdgeRow,
     second: &EdgeRow,
     healed: &Healed,
     node: NodeId,
     steps: &mut Steps<L>,
 ) -> Result<Draft, Memory>
-    requires ringed { IsRinged (drawn excerpt.now.rows) }
-    requires stands { excerpt.now.rows ≡ tables_of (drawn excerpt.now.rows) }
-    requires joint { IsJoint (drawn excerpt.now.rows) first.now second.now node }
+    requires ringed { IsRinged (drawn tables.now.rows) }
+    requires stands { tables.now.rows ≡ tables_of (drawn tables.now.rows) }
+    requires joint { IsJoint (drawn tables.now.rows) first.now second.now node }
     requires healed { IsHealedAt healed.now first.now second.now node }
     requires id { healed.now.id ≡ first.now.edge_id }
-    ensures draft { IfOk result (λ d. IsDraftOf (drawn excerpt.now.rows) d) }
-    ensures rows { IfOk result (λ d. d.rows ≡ rows_boxed_as (drawn excerpt.now.rows) (mod_heal_in (drawn excerpt.now.rows) (drawn_edge first.now) (drawn_edge second.now) node)) }
+    ensures draft { IfOk result (λ d. IsDraftOf (drawn tables.now.rows) d) }
+    ensures rows { IfOk result (λ d. d.rows ≡ rows_boxed_as (drawn tables.now.rows) (mod_heal_in (drawn tables.now.rows) (drawn_edge first.now) (drawn_edge second.now) node)) }
 {
-    let writes = heal_writes(alloc, excerpt.tables(), first, second, healed, node)?;
-    let mut draft = Draft::of(alloc, excerpt)?;
+    let writes = heal_writes(alloc, tables, first, second, healed, node)?;
+    let mut draft = Draft::of(alloc, tables)?;
     draft.write_all(alloc, writes, steps)?;
     Ok(draft)
 }
@@ -197,21 +197,21 @@ fn heal_mod_draft<L: Ledger>(
 /// them list that edge.
 pub fn heal_mod<L: Ledger>(
     alloc: Global,
-    excerpt: &Excerpt,
+    tables: &Tables,
     first: &EdgeRow,
     second: &EdgeRow,
     node: NodeId,
     steps: &mut Steps<L>,
 ) -> Result<Tried, Memory>
-    requires ready { IsReady (drawn excerpt.now.rows) }
-    requires ringed { IsRinged (drawn excerpt.now.rows) }
-    requires stands { excerpt.now.rows ≡ tables_of (drawn excerpt.now.rows) }
-    requires joint { IsJoint (drawn excerpt.now.rows) first.now second.now node }
-    ensures { IfOk result (λ d. IsTried (drawn excerpt.now.rows)
-        (heal_mod_done (drawn excerpt.now.rows) (drawn_edge first.now) (drawn_edge second.now) node) d) }
+    requires ready { IsReady (drawn tables.now.rows) }
+    requires ringed { IsRinged (drawn tables.now.rows) }
+    requires stands { tables.now.rows ≡ tables_of (drawn tables.now.rows) }
+    requires joint { IsJoint (drawn tables.now.rows) first.now second.now node }
+    ensures { IfOk result (λ d. IsTried (drawn tables.now.rows)
+        (heal_mod_done (drawn tables.now.rows) (drawn_edge first.now) (drawn_edge second.now) node) d) }
 {
     let healed = healed_into_first(first, second, node);
-    let mut draft = heal_mod_draft(alloc, excerpt, first, second, &healed, node, steps)?;
+    let mut draft = heal_mod_draft(alloc, tables, first, second, &healed, node, steps)?;
     follow_first(alloc, &mut draft, &healed, steps)?;
     let ids = node_and_edge(node, healed.first);
     Ok(Tried { draft, ids })

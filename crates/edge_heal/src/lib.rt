@@ -2,7 +2,7 @@
 //!
 //! It stands on the renamed links of `edge_split`, the joins of `grid_lines`, the features of `relation_rows` and
 //! the drafts of `read_set`. It promises the row writes and the reply of a heal where it is accepted on the
-//! excerpt, and else the rule that refuses it, by the rules in their order; and that a heal undoes a split. To
+//! tables, and else the rule that refuses it, by the rules in their order; and that a heal undoes a split. To
 //! make the writes is left to whoever keeps the tables.
 #![tactic(auto)]
 

@@ -1,5 +1,6 @@
 // The rules by which two edges are healed at a node.
-ghost use Rattle.std.specs.Prelude.{◌≡◌, ◌==◌, ◌&&◌, ◌||◌, IfOk, Some};
+ghost use Rattle.std.specs.Prelude.{◌≡◌, ◌==◌, ◌&&◌, ◌||◌, IfOk, Some, if◌then◌else◌};
+ghost use Rattle.topo_base.specs.declared.edit.Edit.{Edit};
 ghost use Rattle.drawing.specs.Drawing.{edge_at, has_only, is_end_of};
 ghost use Rattle.drawing.specs.HealEdges.{common_nodes, healed_node, is_closed, is_nothing};
 ghost use Rattle.drawing.specs.Edits.{heal_at, heal_edges};
@@ -8,6 +9,7 @@ ghost use Rattle.drawing.specs.Relations.{edge_type, node_type};
 ghost use Rattle.drawing.specs.RemoveEdge.{have_same_features};
 ghost use Rattle.drawing.specs.Tables.{drawn, drawn_edge, tables_of};
 ghost use Rattle.read_set.specs.Edited.{AnswersOutcome, IsTried};
+ghost use Rattle.read_set.specs.Kept.{Keeps};
 ghost use Rattle.edge_heal.specs.Healing.{AreJoined, IsJoint, IsRowOf, heal_done_by};
 ghost use Rattle.read_set.specs.Ready.{IsReady};
 ghost use Rattle.ring_laws.specs.Ringed.{IsRinged};
@@ -20,7 +22,7 @@ use relation_rows::have_same_features;
 use std::alloc::Global;
 use std::sync::ledger::Ledger;
 use topo_base::{EdgeId, EdgeRow, Memory, NodeId, Rule, Steps};
-use topo_tables::{Excerpt, Tables};
+use topo_tables::Tables;
 
 /// The types of nodes and of edges among the elements of a primitive layer.
 const NODE_TYPE: u32 = 1;
@@ -123,24 +125,24 @@ fn is_listed<L: Ledger>(tables: &Tables, node: NodeId, steps: &mut Steps<L>) -> 
 /// The draft of two edges that may be healed at the node: the joined edge is new, or it is the first.
 fn heal<L: Ledger>(
     alloc: Global,
-    excerpt: &Excerpt,
+    tables: &Tables,
     first: &EdgeRow,
     second: &EdgeRow,
     node: NodeId,
     anew: bool,
     steps: &mut Steps<L>,
 ) -> Result<Tried, Memory>
-    requires ready { IsReady (drawn excerpt.now.rows) }
-    requires ringed { IsRinged (drawn excerpt.now.rows) }
-    requires stands { excerpt.now.rows ≡ tables_of (drawn excerpt.now.rows) }
-    requires joint { IsJoint (drawn excerpt.now.rows) first.now second.now node }
-    ensures { IfOk result (λ d. IsTried (drawn excerpt.now.rows)
-        (heal_done_by anew (drawn excerpt.now.rows) (drawn_edge first.now) (drawn_edge second.now) node) d) }
+    requires ready { IsReady (drawn tables.now.rows) }
+    requires ringed { IsRinged (drawn tables.now.rows) }
+    requires stands { tables.now.rows ≡ tables_of (drawn tables.now.rows) }
+    requires joint { IsJoint (drawn tables.now.rows) first.now second.now node }
+    ensures { IfOk result (λ d. IsTried (drawn tables.now.rows)
+        (heal_done_by anew (drawn tables.now.rows) (drawn_edge first.now) (drawn_edge second.now) node) d) }
 {
     if anew {
-        heal_new(alloc, excerpt, first, second, node, steps)
+        heal_new(alloc, tables, first, second, node, steps)
     } else {
-        heal_mod(alloc, excerpt, first, second, node, steps)
+        heal_mod(alloc, tables, first, second, node, steps)
     }
 }
 
@@ -148,48 +150,47 @@ fn heal<L: Ledger>(
 /// NodeInFeature.
 fn heal_at<L: Ledger>(
     alloc: Global,
-    excerpt: &Excerpt,
+    tables: &Tables,
     first: &EdgeRow,
     second: &EdgeRow,
     node: NodeId,
     anew: bool,
     steps: &mut Steps<L>,
 ) -> Result<Edited, EditEnd>
-    requires ready { IsReady (drawn excerpt.now.rows) }
-    requires ringed { IsRinged (drawn excerpt.now.rows) }
-    requires stands { excerpt.now.rows ≡ tables_of (drawn excerpt.now.rows) }
-    requires joined { AreJoined (drawn excerpt.now.rows) first.now second.now node }
-    ensures { AnswersOutcome (drawn excerpt.now.rows)
-        (heal_at anew (drawn excerpt.now.rows) (drawn_edge first.now) (drawn_edge second.now) (Some node)) result }
+    requires ready { IsReady (drawn tables.now.rows) }
+    requires ringed { IsRinged (drawn tables.now.rows) }
+    requires stands { tables.now.rows ≡ tables_of (drawn tables.now.rows) }
+    requires joined { AreJoined (drawn tables.now.rows) first.now second.now node }
+    ensures { AnswersOutcome (drawn tables.now.rows)
+        (heal_at anew (drawn tables.now.rows) (drawn_edge first.now) (drawn_edge second.now) (Some node)) result }
 {
-    let tables = excerpt.tables();
     if !are_listed_alike(tables, first, second, steps) {
         return Err(EditEnd::Refused(Rule::HealSplitsFeature));
     }
     if is_listed(tables, node, steps) {
         return Err(EditEnd::Refused(Rule::NodeInFeature));
     }
-    let tried = heal(alloc, excerpt, first, second, node, anew, steps)?;
+    let tried = heal(alloc, tables, first, second, node, anew, steps)?;
     Ok(tried.into_edited())
 }
 
-/// Two edges of the excerpt are healed, by the rules on their nodes, ClosedEdge, NotJoined and
+/// Two edges of the tables are healed, by the rules on their nodes, ClosedEdge, NotJoined and
 /// OthersJoined, and then by those on features.
 fn heal_rows<L: Ledger>(
     alloc: Global,
-    excerpt: &Excerpt,
+    tables: &Tables,
     first: &EdgeRow,
     second: &EdgeRow,
     anew: bool,
     steps: &mut Steps<L>,
 ) -> Result<Edited, EditEnd>
-    requires ready { IsReady (drawn excerpt.now.rows) }
-    requires ringed { IsRinged (drawn excerpt.now.rows) }
-    requires stands { excerpt.now.rows ≡ tables_of (drawn excerpt.now.rows) }
-    requires first { IsRowOf (drawn excerpt.now.rows) first.now }
-    requires second { IsRowOf (drawn excerpt.now.rows) second.now }
-    ensures { AnswersOutcome (drawn excerpt.now.rows)
-        (heal_edges anew (drawn excerpt.now.rows) (Some (drawn_edge first.now)) (Some (drawn_edge second.now))) result }
+    requires ready { IsReady (drawn tables.now.rows) }
+    requires ringed { IsRinged (drawn tables.now.rows) }
+    requires stands { tables.now.rows ≡ tables_of (drawn tables.now.rows) }
+    requires first { IsRowOf (drawn tables.now.rows) first.now }
+    requires second { IsRowOf (drawn tables.now.rows) second.now }
+    ensures { AnswersOutcome (drawn tables.now.rows)
+        (heal_edges anew (drawn tables.now.rows) (Some (drawn_edge first.now)) (Some (drawn_edge second.now))) result }
 {
     if is_one_closed(first, second) {
         return Err(EditEnd::Refused(Rule::ClosedEdge));
@@ -197,37 +198,37 @@ fn heal_rows<L: Ledger>(
     if are_not_joined(first, second) {
         return Err(EditEnd::Refused(Rule::NotJoined));
     }
-    let Some(node) = healed_node(excerpt.tables(), first, second, steps) else {
+    let Some(node) = healed_node(tables, first, second, steps) else {
         return Err(EditEnd::Refused(Rule::OthersJoined));
     };
-    heal_at(alloc, excerpt, first, second, node, anew, steps)
+    heal_at(alloc, tables, first, second, node, anew, steps)
 }
 
-/// What ST_ModEdgeHeal of SQL/MM Topo-Geo answers on the excerpt where two edges are healed into one, or
+/// What ST_ModEdgeHeal of SQL/MM Topo-Geo answers on the tables where two edges are healed into one, or
 /// ST_NewEdgeHeal, where the joined edge is to be new: the row writes that make the tables follow it, and
 /// a reply that names the node that goes and the joined edge, a new edge first. Refused has the first rule
 /// that refuses it, of NoEdge, ClosedEdge, NotJoined, OthersJoined, HealSplitsFeature and NodeInFeature;
 /// Memory comes only where none does. Nothing is changed.
 pub fn heal_edges<L: Ledger>(
     alloc: Global,
-    excerpt: &Excerpt,
+    tables: &Tables,
     edge: EdgeId,
     other: EdgeId,
     anew: bool,
     steps: &mut Steps<L>,
 ) -> Result<Edited, EditEnd>
-    requires ready { IsReady (drawn excerpt.now.rows) }
-    requires ringed { IsRinged (drawn excerpt.now.rows) }
-    requires stands { excerpt.now.rows ≡ tables_of (drawn excerpt.now.rows) }
-    ensures { AnswersOutcome (drawn excerpt.now.rows)
-        (heal_edges anew (drawn excerpt.now.rows) (edge_at (drawn excerpt.now.rows) edge) (edge_at (drawn excerpt.now.rows) other)) result }
+    requires ready { IsReady (drawn tables.now.rows) }
+    requires ringed { IsRinged (drawn tables.now.rows) }
+    requires stands { tables.now.rows ≡ tables_of (drawn tables.now.rows) }
+    ensures answer { AnswersOutcome (drawn tables.now.rows)
+        (heal_edges anew (drawn tables.now.rows) (edge_at (drawn tables.now.rows) edge) (edge_at (drawn tables.now.rows) other)) result }
+    ensures kept { Keeps (drawn tables.now.rows) (if anew then Edit.NewEdgeHeal edge other else Edit.ModEdgeHeal edge other) result }
 {
-    let tables = excerpt.tables();
     let Some(first) = tables.edge(edge, steps) else {
         return Err(EditEnd::Refused(Rule::NoEdge));
     };
     let Some(second) = tables.edge(other, steps) else {
         return Err(EditEnd::Refused(Rule::NoEdge));
     };
-    heal_rows(alloc, excerpt, first, second, anew, steps)
+    heal_rows(alloc, tables, first, second, anew, steps)
 }

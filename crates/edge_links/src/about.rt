@@ -18,7 +18,7 @@ use crate::star::Star;
 use grid_angle::Dir;
 use std::alloc::Global;
 use topo_base::{Dart, EdgeId, EdgeRow, Line, Memory, NodeId};
-use topo_tables::Excerpt;
+use topo_tables::Tables;
 
 /// The direction in which a line leaves its first vertex.
 pub fn direction_at_start(line: &Line) -> Dir
@@ -128,11 +128,11 @@ pub(crate) fn star_among(
 }
 
 /// The star of a node: the darts that leave it, in clockwise order from straight up.
-pub fn star_about(alloc: Global, excerpt: &Excerpt, node: NodeId) -> Result<Star, Memory>
-    requires { IsPlainInOrder (drawn excerpt.now.rows) }
-    ensures star { IfOk result (λ s. s ≡ rays_at (drawn excerpt.now.rows) node) }
-    ensures some { IfOk result (λ s. HasDirections (drawn excerpt.now.rows) node) }
+pub fn star_about(alloc: Global, tables: &Tables, node: NodeId) -> Result<Star, Memory>
+    requires { IsPlainInOrder (drawn tables.now.rows) }
+    ensures star { IfOk result (λ s. s ≡ rays_at (drawn tables.now.rows) node) }
+    ensures some { IfOk result (λ s. HasDirections (drawn tables.now.rows) node) }
     ensures order { IfOk result (λ s. IsTrue (in_clockwise_order s.dirs)) }
 {
-    star_among(alloc, excerpt.tables().edges(), node)
+    star_among(alloc, tables.edges(), node)
 }

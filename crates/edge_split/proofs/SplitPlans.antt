@@ -23,6 +23,9 @@ use Rattle.drawing.specs.Change.{EdgeIsCut, EdgeIsCutAnew}
 use Rattle.edge_split.specs.Splitting.{IsCut, done_by}
 use Rattle.read_set.specs.declared.edited.Edited.{Edited}
 use Rattle.edge_split.proofs.SplitDrafts.{cut_of, proper_line}
+use Rattle.drawing.specs.Step.{step}
+use Rattle.topo_base.specs.declared.edit.Edit.{Edit}
+use Rattle.topo_base.specs.declared.edit.Edit.TheVariants.{ModEdgeSplit, NewEdgesSplit}
 
 pub row_in : (t x : Tables) (id : ℕ) (o : Option EdgeRow) → t ≡ x → o ≡ row_at edge_row_id t.edges id → o ≡ row_at edge_row_id x.edges id
 row_in t x id o same e = e ∙ ap (λ (u : Tables). row_at edge_row_id u.edges id) same
@@ -55,5 +58,10 @@ accepted anew t x id found row p same is e inside =
     ∙ ap (λ b. carried_out S (cond (not b) (Err NotOnEdge) (cond anew (Ok (EdgeIsCutAnew (drawn_edge (row.now)) p)) (Ok (EdgeIsCut (drawn_edge (row.now)) p))))) inside
     ∙ done_is anew S (drawn_edge (row.now)) p
 
-pub want_of_memory : (S : Drawing) (o : Outcome) (done : Accepted) (r : Result Edited EditEnd) → o ≡ Ok done → r ≡ Err Memory → AnswersOutcome S o r
-want_of_memory S o done r is e = subst (AnswersOutcome S o) (sym e) (ap is_ok is)
+-- which edit it is
+abbrev pub edit_of : Bool → ℕ → Point → Edit
+edit_of anew edge p = cond anew (NewEdgesSplit edge p) (ModEdgeSplit edge p)
+
+pub step_of : (S : Drawing) (anew : Bool) (edge : ℕ) (p : Point) → split_edge anew S (edge_at S edge) p ≡ step S (edit_of anew edge p)
+step_of S true edge p = refl
+step_of S false edge p = refl

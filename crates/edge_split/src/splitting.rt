@@ -16,7 +16,7 @@ use relation_rows::{follow_split, listing_of};
 use std::alloc::Global;
 use std::sync::ledger::Ledger;
 use topo_base::{EdgeId, EdgeRow, Element, Grid, Ids, Memory, NodeId, Steps};
-use topo_tables::Excerpt;
+use topo_tables::Tables;
 
 /// A node and an edge, as a reply names them.
 pub fn node_and_edge(node: NodeId, edge: EdgeId) -> Ids
@@ -56,13 +56,13 @@ fn follow_parts<L: Ledger>(
 }
 
 /// The edge with its first part in its place, and the second part with the next id.
-fn parts_of_old(excerpt: &Excerpt, row: &EdgeRow) -> Parts
+fn parts_of_old(tables: &Tables, row: &EdgeRow) -> Parts
     ensures edge { result.edge ≡ row.now.edge_id }
-    ensures node { result.node ≡ excerpt.now.rows.next_ids.node }
+    ensures node { result.node ≡ tables.now.rows.next_ids.node }
     ensures first { result.first ≡ row.now.edge_id }
-    ensures second { result.second ≡ excerpt.now.rows.next_ids.edge }
+    ensures second { result.second ≡ tables.now.rows.next_ids.edge }
 {
-    let counters = excerpt.tables().counters();
+    let counters = tables.counters();
     Parts {
         edge: row.edge_id,
         node: NodeId(counters.node),
@@ -72,14 +72,14 @@ fn parts_of_old(excerpt: &Excerpt, row: &EdgeRow) -> Parts
 }
 
 /// The edge with two parts, which have the next two ids.
-fn parts_anew(excerpt: &Excerpt, row: &EdgeRow) -> Parts
-    requires { excerpt.now.rows.next_ids.edge + 2 < 2 ^ 32 }
+fn parts_anew(tables: &Tables, row: &EdgeRow) -> Parts
+    requires { tables.now.rows.next_ids.edge + 2 < 2 ^ 32 }
     ensures edge { result.edge ≡ row.now.edge_id }
-    ensures node { result.node ≡ excerpt.now.rows.next_ids.node }
-    ensures first { result.first ≡ excerpt.now.rows.next_ids.edge }
-    ensures second { result.second ≡ excerpt.now.rows.next_ids.edge + 1 }
+    ensures node { result.node ≡ tables.now.rows.next_ids.node }
+    ensures first { result.first ≡ tables.now.rows.next_ids.edge }
+    ensures second { result.second ≡ tables.now.rows.next_ids.edge + 1 }
 {
-    let counters = excerpt.tables().counters();
+    let counters = tables.counters();
     Parts {
         edge: row.edge_id,
         node: NodeId(counters.node),
@@ -92,25 +92,25 @@ fn parts_anew(excerpt: &Excerpt, row: &EdgeRow) -> Parts
 /// were.
 fn split_mod_draft<L: Ledger>(
     alloc: Global,
-    excerpt: &Excerpt,
+    tables: &Tables,
     row: &EdgeRow,
     parts: &Parts,
     point: Grid,
     steps: &mut Steps<L>,
 ) -> Result<Draft, Memory>
-    requires ready { IsReady (drawn excerpt.now.rows) }
-    requires ringed { IsRinged (drawn excerpt.now.rows) }
-    requires stands { excerpt.now.rows ≡ tables_of (drawn excerpt.now.rows) }
-    requires cut { IsCut (drawn excerpt.now.rows) row.now point }
+    requires ready { IsReady (drawn tables.now.rows) }
+    requires ringed { IsRinged (drawn tables.now.rows) }
+    requires stands { tables.now.rows ≡ tables_of (drawn tables.now.rows) }
+    requires cut { IsCut (drawn tables.now.rows) row.now point }
     requires edge { parts.now.edge ≡ row.now.edge_id }
-    requires node { parts.now.node ≡ excerpt.now.rows.next_ids.node }
+    requires node { parts.now.node ≡ tables.now.rows.next_ids.node }
     requires first { parts.now.first ≡ row.now.edge_id }
-    requires second { parts.now.second ≡ excerpt.now.rows.next_ids.edge }
-    ensures draft { IfOk result (λ d. IsDraftOf (drawn excerpt.now.rows) d) }
-    ensures rows { IfOk result (λ d. d.rows ≡ rows_boxed_as (drawn excerpt.now.rows) (split_mod_in (drawn excerpt.now.rows) (drawn_edge row.now) point)) }
+    requires second { parts.now.second ≡ tables.now.rows.next_ids.edge }
+    ensures draft { IfOk result (λ d. IsDraftOf (drawn tables.now.rows) d) }
+    ensures rows { IfOk result (λ d. d.rows ≡ rows_boxed_as (drawn tables.now.rows) (split_mod_in (drawn tables.now.rows) (drawn_edge row.now) point)) }
 {
-    let writes = mod_writes(alloc, excerpt.tables(), row, parts, point)?;
-    let mut draft = Draft::of(alloc, excerpt)?;
+    let writes = mod_writes(alloc, tables, row, parts, point)?;
+    let mut draft = Draft::of(alloc, tables)?;
     draft.write_all(alloc, writes, steps)?;
     Ok(draft)
 }
@@ -118,25 +118,25 @@ fn split_mod_draft<L: Ledger>(
 /// A draft in which the edge has gone, and its parts have come. Features are still as they were.
 fn split_new_draft<L: Ledger>(
     alloc: Global,
-    excerpt: &Excerpt,
+    tables: &Tables,
     row: &EdgeRow,
     parts: &Parts,
     point: Grid,
     steps: &mut Steps<L>,
 ) -> Result<Draft, Memory>
-    requires ready { IsReady (drawn excerpt.now.rows) }
-    requires ringed { IsRinged (drawn excerpt.now.rows) }
-    requires stands { excerpt.now.rows ≡ tables_of (drawn excerpt.now.rows) }
-    requires cut { IsCut (drawn excerpt.now.rows) row.now point }
+    requires ready { IsReady (drawn tables.now.rows) }
+    requires ringed { IsRinged (drawn tables.now.rows) }
+    requires stands { tables.now.rows ≡ tables_of (drawn tables.now.rows) }
+    requires cut { IsCut (drawn tables.now.rows) row.now point }
     requires edge { parts.now.edge ≡ row.now.edge_id }
-    requires node { parts.now.node ≡ excerpt.now.rows.next_ids.node }
-    requires first { parts.now.first ≡ excerpt.now.rows.next_ids.edge }
-    requires second { parts.now.second ≡ excerpt.now.rows.next_ids.edge + 1 }
-    ensures draft { IfOk result (λ d. IsDraftOf (drawn excerpt.now.rows) d) }
-    ensures rows { IfOk result (λ d. d.rows ≡ rows_boxed_as (drawn excerpt.now.rows) (split_new_in (drawn excerpt.now.rows) (drawn_edge row.now) point)) }
+    requires node { parts.now.node ≡ tables.now.rows.next_ids.node }
+    requires first { parts.now.first ≡ tables.now.rows.next_ids.edge }
+    requires second { parts.now.second ≡ tables.now.rows.next_ids.edge + 1 }
+    ensures draft { IfOk result (λ d. IsDraftOf (drawn tables.now.rows) d) }
+    ensures rows { IfOk result (λ d. d.rows ≡ rows_boxed_as (drawn tables.now.rows) (split_new_in (drawn tables.now.rows) (drawn_edge row.now) point)) }
 {
-    let writes = new_writes(alloc, excerpt.tables(), row, parts, point)?;
-    let mut draft = Draft::of(alloc, excerpt)?;
+    let writes = new_writes(alloc, tables, row, parts, point)?;
+    let mut draft = Draft::of(alloc, tables)?;
     draft.write_all(alloc, writes, steps)?;
     Ok(draft)
 }
@@ -144,19 +144,19 @@ fn split_new_draft<L: Ledger>(
 /// The draft of an edge that becomes its first part.
 pub fn split_mod<L: Ledger>(
     alloc: Global,
-    excerpt: &Excerpt,
+    tables: &Tables,
     row: &EdgeRow,
     point: Grid,
     steps: &mut Steps<L>,
 ) -> Result<Tried, Memory>
-    requires ready { IsReady (drawn excerpt.now.rows) }
-    requires ringed { IsRinged (drawn excerpt.now.rows) }
-    requires stands { excerpt.now.rows ≡ tables_of (drawn excerpt.now.rows) }
-    requires cut { IsCut (drawn excerpt.now.rows) row.now point }
-    ensures { IfOk result (λ d. IsTried (drawn excerpt.now.rows) (split_mod_done (drawn excerpt.now.rows) (drawn_edge row.now) point) d) }
+    requires ready { IsReady (drawn tables.now.rows) }
+    requires ringed { IsRinged (drawn tables.now.rows) }
+    requires stands { tables.now.rows ≡ tables_of (drawn tables.now.rows) }
+    requires cut { IsCut (drawn tables.now.rows) row.now point }
+    ensures { IfOk result (λ d. IsTried (drawn tables.now.rows) (split_mod_done (drawn tables.now.rows) (drawn_edge row.now) point) d) }
 {
-    let parts = parts_of_old(excerpt, row);
-    let mut draft = split_mod_draft(alloc, excerpt, row, &parts, point, steps)?;
+    let parts = parts_of_old(tables, row);
+    let mut draft = split_mod_draft(alloc, tables, row, &parts, point, steps)?;
     follow_parts(alloc, &mut draft, &parts, steps)?;
     let ids = node_and_edge(parts.node, parts.second);
     Ok(Tried { draft, ids })
@@ -165,19 +165,19 @@ pub fn split_mod<L: Ledger>(
 /// The draft of an edge that goes, and two edges that come in its place.
 pub fn split_new<L: Ledger>(
     alloc: Global,
-    excerpt: &Excerpt,
+    tables: &Tables,
     row: &EdgeRow,
     point: Grid,
     steps: &mut Steps<L>,
 ) -> Result<Tried, Memory>
-    requires ready { IsReady (drawn excerpt.now.rows) }
-    requires ringed { IsRinged (drawn excerpt.now.rows) }
-    requires stands { excerpt.now.rows ≡ tables_of (drawn excerpt.now.rows) }
-    requires cut { IsCut (drawn excerpt.now.rows) row.now point }
-    ensures { IfOk result (λ d. IsTried (drawn excerpt.now.rows) (split_new_done (drawn excerpt.now.rows) (drawn_edge row.now) point) d) }
+    requires ready { IsReady (drawn tables.now.rows) }
+    requires ringed { IsRinged (drawn tables.now.rows) }
+    requires stands { tables.now.rows ≡ tables_of (drawn tables.now.rows) }
+    requires cut { IsCut (drawn tables.now.rows) row.now point }
+    ensures { IfOk result (λ d. IsTried (drawn tables.now.rows) (split_new_done (drawn tables.now.rows) (drawn_edge row.now) point) d) }
 {
-    let parts = parts_anew(excerpt, row);
-    let mut draft = split_new_draft(alloc, excerpt, row, &parts, point, steps)?;
+    let parts = parts_anew(tables, row);
+    let mut draft = split_new_draft(alloc, tables, row, &parts, point, steps)?;
     follow_parts(alloc, &mut draft, &parts, steps)?;
     let ids = node_and_edges(parts.node, parts.first, parts.second);
     Ok(Tried { draft, ids })

@@ -1,5 +1,5 @@
 -- The rule that refuses a removed edge, and that the faces on its sides join where none does.
-use Rattle.std.proofs.Common.{◌≡◌, ℕ, Bool, true, false, not, ◌&&◌, ◌==◌, List, cond, Option, Some, None, Bor, Err, sym, ap, ◌∙◌}
+use Rattle.std.proofs.Common.{◌≡◌, ℕ, Bool, true, false, not, ◌&&◌, ◌==◌, List, cond, Option, Some, None, Bor, Err, refl, sym, ap, ◌∙◌}
 use Rattle.std.specs.List.{Contains}
 use Rattle.std.specs.Option.{option_copied}
 use Rattle.topo_base.specs.declared.rows.EdgeRow.{EdgeRow}
@@ -15,6 +15,9 @@ use Rattle.drawing.specs.RemoveEdge.{have_same_features}
 use Rattle.drawing.specs.Rows.{row_at}
 use Rattle.drawing.specs.Writes.{edge_row_id}
 use Rattle.drawing.proofs.Members.{contains-found}
+use Rattle.drawing.specs.Step.{step}
+use Rattle.topo_base.specs.declared.edit.Edit.{Edit}
+use Rattle.topo_base.specs.declared.edit.Edit.TheVariants.{RemEdgeModFace, RemEdgeNewFace}
 
 -- the row that a reader found is there
 pub found_there : (rows : List EdgeRow) (id : ℕ) (found : Option (Bor EdgeRow)) (row : Bor EdgeRow) → found ≡ Some row → option_copied found ≡ row_at edge_row_id rows id → Contains rows row.now
@@ -40,3 +43,11 @@ refused_between anew S id e found free between = ap (remove_edge anew S) found �
 pub faces_joined : (anew : Bool) (S : Drawing) (id : ℕ) (e : Edge) → edge_at S id ≡ Some e → is_in_feature S edge_type e.edge_id ≡ false → lies_between_features S e ≡ false
     → remove_edge anew S (edge_at S id) ≡ merged anew S e
 faces_joined anew S id e found free inner = ap (remove_edge anew S) found ∙ (λ i. by_tests anew S e (free i) (inner i))
+
+-- which edit it is
+abbrev pub edit_of : Bool → ℕ → Edit
+edit_of anew edge = cond anew (RemEdgeNewFace edge) (RemEdgeModFace edge)
+
+pub step_of : (S : Drawing) (anew : Bool) (edge : ℕ) → remove_edge anew S (edge_at S edge) ≡ step S (edit_of anew edge)
+step_of S true edge = refl
+step_of S false edge = refl

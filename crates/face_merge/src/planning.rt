@@ -1,5 +1,6 @@
 // Removed edges, by their rules.
-ghost use Rattle.std.specs.Prelude.{◌≡◌, ◌==◌, ◌&&◌, not, Contains, IfOk};
+ghost use Rattle.std.specs.Prelude.{◌≡◌, ◌==◌, ◌&&◌, not, Contains, IfOk, if◌then◌else◌};
+ghost use Rattle.topo_base.specs.declared.edit.Edit.{Edit};
 ghost use Rattle.drawing.specs.Drawing.{edge_at};
 ghost use Rattle.drawing.specs.Edits.{merged, remove_edge};
 ghost use Rattle.drawing.specs.IsoEdits.{is_in_feature as is_element_in_feature};
@@ -8,6 +9,7 @@ ghost use Rattle.drawing.specs.Relations.{edge_type, face_type};
 ghost use Rattle.drawing.specs.RemoveEdge.{have_same_features};
 ghost use Rattle.drawing.specs.Tables.{drawn, drawn_edge, tables_of};
 ghost use Rattle.read_set.specs.Edited.{AnswersOutcome};
+ghost use Rattle.read_set.specs.Kept.{Keeps};
 ghost use Rattle.read_set.specs.Plans.{AreWritesOf};
 ghost use Rattle.read_set.specs.Ready.{IsReady};
 
@@ -20,7 +22,7 @@ use relation_rows::have_same_features;
 use std::alloc::Global;
 use std::sync::ledger::Ledger;
 use topo_base::{EdgeId, EdgeRow, Element, Memory, Rule, Steps};
-use topo_tables::{Excerpt, Tables};
+use topo_tables::Tables;
 
 /// The types of edges and of faces among the elements of a primitive layer.
 const EDGE_TYPE: u32 = 2;
@@ -30,18 +32,18 @@ const FACE_TYPE: u32 = 3;
 /// The edge goes, and the faces on its sides become one: it is known that no rule refuses it.
 fn without_edge<L: Ledger>(
     alloc: Global,
-    excerpt: &Excerpt,
+    tables: &Tables,
     edge: &EdgeRow,
     anew: bool,
     steps: &mut Steps<L>,
 ) -> Result<Edited, Memory>
-    requires ready { IsReady (drawn excerpt.now.rows) }
-    requires plain { IsPlainInOrder (drawn excerpt.now.rows) }
-    requires stands { excerpt.now.rows ≡ tables_of (drawn excerpt.now.rows) }
-    requires there { Contains excerpt.now.rows.edges edge.now }
-    ensures { IfOk result (λ d. AreWritesOf (drawn excerpt.now.rows) (merged anew (drawn excerpt.now.rows) (drawn_edge edge.now)) d.writes d.ids) }
+    requires ready { IsReady (drawn tables.now.rows) }
+    requires plain { IsPlainInOrder (drawn tables.now.rows) }
+    requires stands { tables.now.rows ≡ tables_of (drawn tables.now.rows) }
+    requires there { Contains tables.now.rows.edges edge.now }
+    ensures { IfOk result (λ d. AreWritesOf (drawn tables.now.rows) (merged anew (drawn tables.now.rows) (drawn_edge edge.now)) d.writes d.ids) }
 {
-    let mut draft = drop_from_draft(alloc, excerpt, edge, steps)?;
+    let mut draft = drop_from_draft(alloc, tables, edge, steps)?;
     let face = merge_faces(alloc, &mut draft, &Removed::of(edge), anew, steps)?;
     let ids = one_id(Element::Face(face));
     let tried = Tried { draft, ids };
@@ -75,17 +77,17 @@ fn is_border_of_features<L: Ledger>(tables: &Tables, edge: &EdgeRow, steps: &mut
 /// ST_RemEdgeModFace, and ST_RemEdgeNewFace where the face is to be new. Nothing is changed.
 pub fn remove_edge<L: Ledger>(
     alloc: Global,
-    excerpt: &Excerpt,
+    tables: &Tables,
     edge: EdgeId,
     anew: bool,
     steps: &mut Steps<L>,
 ) -> Result<Edited, EditEnd>
-    requires ready { IsReady (drawn excerpt.now.rows) }
-    requires plain { IsPlainInOrder (drawn excerpt.now.rows) }
-    requires stands { excerpt.now.rows ≡ tables_of (drawn excerpt.now.rows) }
-    ensures { AnswersOutcome (drawn excerpt.now.rows) (remove_edge anew (drawn excerpt.now.rows) (edge_at (drawn excerpt.now.rows) edge)) result }
+    requires ready { IsReady (drawn tables.now.rows) }
+    requires plain { IsPlainInOrder (drawn tables.now.rows) }
+    requires stands { tables.now.rows ≡ tables_of (drawn tables.now.rows) }
+    ensures answer { AnswersOutcome (drawn tables.now.rows) (remove_edge anew (drawn tables.now.rows) (edge_at (drawn tables.now.rows) edge)) result }
+    ensures kept { Keeps (drawn tables.now.rows) (if anew then Edit.RemEdgeNewFace edge else Edit.RemEdgeModFace edge) result }
 {
-    let tables = excerpt.tables();
     let Some(row) = tables.edge(edge, steps) else {
         return Err(EditEnd::Refused(Rule::NoEdge));
     };
@@ -95,7 +97,7 @@ pub fn remove_edge<L: Ledger>(
     if is_border_of_features(tables, row, steps) {
         return Err(EditEnd::Refused(Rule::FaceInFeature));
     }
-    match without_edge(alloc, excerpt, row, anew, steps) {
+    match without_edge(alloc, tables, row, anew, steps) {
         Ok(edited) => Ok(edited),
         Err(Memory) => Err(EditEnd::Memory),
     }

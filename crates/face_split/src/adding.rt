@@ -21,7 +21,7 @@ use std::sync::ledger::Ledger;
 use topo_base::{
     Dart, EdgeId, FaceId, Line, Memory, NodeId, NodeRow, RowDart, RowId, RowWrite, Steps,
 };
-use topo_tables::{Excerpt, Writes};
+use topo_tables::{Tables, Writes};
 
 /// An edge that comes: its id, the nodes at its ends, and the face in which it lies.
 #[derive(Clone, Copy)]
@@ -42,20 +42,20 @@ fn from_node(coming: &Coming, forward: bool) -> NodeId
 /// The star of the node from which a dart of the edge leaves, with the edge.
 fn star_with(
     alloc: Global,
-    excerpt: &Excerpt,
+    tables: &Tables,
     coming: &Coming,
     line: &Line,
     forward: bool,
 ) -> Result<Star, Memory>
-    requires plain { IsPlainInOrder (drawn excerpt.now.rows) }
+    requires plain { IsPlainInOrder (drawn tables.now.rows) }
     requires proper { IsTrue (has_proper_segments line.now) }
-    ensures star { (a b : NodeValue) (f : ℕ) → IsComing (drawn excerpt.now.rows) a b line.now f coming.now.edge coming.now.start coming.now.end
-        → IfOk result (λ s. s ≡ rays_at (with_edge (drawn excerpt.now.rows) a b line.now f) (from_node forward coming.now.start coming.now.end)) }
-    ensures some { IfOk result (λ s. HasDirections (drawn excerpt.now.rows) (from_node forward coming.now.start coming.now.end)) }
+    ensures star { (a b : NodeValue) (f : ℕ) → IsComing (drawn tables.now.rows) a b line.now f coming.now.edge coming.now.start coming.now.end
+        → IfOk result (λ s. s ≡ rays_at (with_edge (drawn tables.now.rows) a b line.now f) (from_node forward coming.now.start coming.now.end)) }
+    ensures some { IfOk result (λ s. HasDirections (drawn tables.now.rows) (from_node forward coming.now.start coming.now.end)) }
     ensures there { IfOk result (λ s. Any (λ d. IsTrue (same_dart (record { edge = coming.now.edge; forward = forward }) d)) s.darts) }
 {
     let node = from_node(coming, forward);
-    let mut star = star_about(alloc, excerpt, node)?;
+    let mut star = star_about(alloc, tables, node)?;
     insert_edge(&mut star, node, coming.edge, coming.start, coming.end, line)?;
     Ok(star)
 }
@@ -63,18 +63,18 @@ fn star_with(
 /// The writes of the links round a dart of the edge.
 fn links_at(
     alloc: Global,
-    excerpt: &Excerpt,
+    tables: &Tables,
     coming: &Coming,
     line: &Line,
     forward: bool,
 ) -> Result<Writes, Memory>
-    requires plain { IsPlainInOrder (drawn excerpt.now.rows) }
+    requires plain { IsPlainInOrder (drawn tables.now.rows) }
     requires proper { IsTrue (has_proper_segments line.now) }
-    ensures links { (a b : NodeValue) (f : ℕ) → IsComing (drawn excerpt.now.rows) a b line.now f coming.now.edge coming.now.start coming.now.end
-        → IfOk result (λ ws. ws ≡ links_at (with_edge (drawn excerpt.now.rows) a b line.now f) coming.now.edge forward coming.now.start coming.now.end) }
-    ensures some { IfOk result (λ _. HasDirections (drawn excerpt.now.rows) (from_node forward coming.now.start coming.now.end)) }
+    ensures links { (a b : NodeValue) (f : ℕ) → IsComing (drawn tables.now.rows) a b line.now f coming.now.edge coming.now.start coming.now.end
+        → IfOk result (λ ws. ws ≡ links_at (with_edge (drawn tables.now.rows) a b line.now f) coming.now.edge forward coming.now.start coming.now.end) }
+    ensures some { IfOk result (λ _. HasDirections (drawn tables.now.rows) (from_node forward coming.now.start coming.now.end)) }
 {
-    let star = star_with(alloc, excerpt, coming, line, forward)?;
+    let star = star_with(alloc, tables, coming, line, forward)?;
     let edge = coming.edge;
     link_writes(alloc, &star, Dart { edge, forward })
 }
@@ -116,19 +116,19 @@ fn not_isolated(node: NodeId) -> RowWrite
 /// The row writes of the edge: its row, the links at both of its nodes, and the nodes.
 fn added_writes(
     alloc: Global,
-    excerpt: &Excerpt,
+    tables: &Tables,
     coming: &Coming,
     line: &Line,
 ) -> Result<Writes, Memory>
-    requires plain { IsPlainInOrder (drawn excerpt.now.rows) }
+    requires plain { IsPlainInOrder (drawn tables.now.rows) }
     requires proper { IsTrue (has_proper_segments line.now) }
-    ensures writes { (a b : NodeValue) → IsComing (drawn excerpt.now.rows) a b line.now coming.now.face coming.now.edge coming.now.start coming.now.end
-        → IfOk result (λ ws. ws ≡ added_writes (drawn excerpt.now.rows) a b line.now coming.now.face) }
-    ensures start { IfOk result (λ _. HasDirections (drawn excerpt.now.rows) coming.now.start) }
-    ensures end { IfOk result (λ _. HasDirections (drawn excerpt.now.rows) coming.now.end) }
+    ensures writes { (a b : NodeValue) → IsComing (drawn tables.now.rows) a b line.now coming.now.face coming.now.edge coming.now.start coming.now.end
+        → IfOk result (λ ws. ws ≡ added_writes (drawn tables.now.rows) a b line.now coming.now.face) }
+    ensures start { IfOk result (λ _. HasDirections (drawn tables.now.rows) coming.now.start) }
+    ensures end { IfOk result (λ _. HasDirections (drawn tables.now.rows) coming.now.end) }
 {
-    let at_start = links_at(alloc, excerpt, coming, line, true)?;
-    let at_end = links_at(alloc, excerpt, coming, line, false)?;
+    let at_start = links_at(alloc, tables, coming, line, true)?;
+    let at_end = links_at(alloc, tables, coming, line, false)?;
     let mut writes = Writes::new(alloc);
     writes.push(row_write(alloc, coming, line)?)?;
     writes.append(at_start)?;
@@ -142,33 +142,33 @@ fn added_writes(
 /// All links are right. The face's box is still as it was.
 pub fn add_to_draft<L: Ledger>(
     alloc: Global,
-    excerpt: &Excerpt,
+    tables: &Tables,
     start: &NodeRow,
     end: &NodeRow,
     line: &Line,
     face: FaceId,
     steps: &mut Steps<L>,
 ) -> Result<Draft, Memory>
-    requires ready { IsReady (drawn excerpt.now.rows) }
-    requires ringed { IsRinged (drawn excerpt.now.rows) }
-    requires stands { excerpt.now.rows ≡ tables_of (drawn excerpt.now.rows) }
-    requires start { IsTrue (has_node (drawn excerpt.now.rows) start.now.node_id) }
-    requires end { IsTrue (has_node (drawn excerpt.now.rows) end.now.node_id) }
-    requires face { IsTrue (has_face (drawn excerpt.now.rows) face) }
+    requires ready { IsReady (drawn tables.now.rows) }
+    requires ringed { IsRinged (drawn tables.now.rows) }
+    requires stands { tables.now.rows ≡ tables_of (drawn tables.now.rows) }
+    requires start { IsTrue (has_node (drawn tables.now.rows) start.now.node_id) }
+    requires end { IsTrue (has_node (drawn tables.now.rows) end.now.node_id) }
+    requires face { IsTrue (has_face (drawn tables.now.rows) face) }
     requires proper { IsTrue (has_proper_segments line.now) }
-    requires plain { IsPlain (with_edge (drawn excerpt.now.rows) start.now end.now line.now face) }
-    ensures draft { IfOk result (λ d. IsDraftOf (drawn excerpt.now.rows) d) }
-    ensures rows { IfOk result (λ d. d.rows ≡ added_rows (drawn excerpt.now.rows) start.now end.now line.now face) }
+    requires plain { IsPlain (with_edge (drawn tables.now.rows) start.now end.now line.now face) }
+    ensures draft { IfOk result (λ d. IsDraftOf (drawn tables.now.rows) d) }
+    ensures rows { IfOk result (λ d. d.rows ≡ added_rows (drawn tables.now.rows) start.now end.now line.now face) }
 {
     let _ = line.vertices();
     let coming = Coming {
-        edge: EdgeId(excerpt.tables().counters().edge),
+        edge: EdgeId(tables.counters().edge),
         start: start.node_id,
         end: end.node_id,
         face,
     };
-    let writes = added_writes(alloc, excerpt, &coming, line)?;
-    let mut draft = Draft::of(alloc, excerpt)?;
+    let writes = added_writes(alloc, tables, &coming, line)?;
+    let mut draft = Draft::of(alloc, tables)?;
     draft.write_all(alloc, writes, steps)?;
     Ok(draft)
 }

@@ -2,7 +2,7 @@
 //!
 //! It stands on the stars of `edge_links`, the borders of `face_rings`, the parts of `face_parts`, the
 //! boxes of `face_boxes`, the features of `relation_rows` and the drafts of `read_set`. It promises the row
-//! writes and the ids of the edit where it is accepted on the excerpt, and else the rule that refuses it, by the
+//! writes and the ids of the edit where it is accepted on the tables, and else the rule that refuses it, by the
 //! rules in their order. To make a plan is left to `edit_plan`.
 #![tactic(auto)]
 

@@ -2,7 +2,7 @@
 
 ghost use Rattle.std.specs.Prelude.{◌≡◌, [], ◌∷◌, IfOk};
 
-use crate::wedges::{face_among, face_at_end, face_at_node, face_at_start};
+use crate::wedges::{face_among, face_at_node, face_at_start};
 use grid_angle::Dir;
 use std::alloc::Global;
 use std::process::Abort;
@@ -30,7 +30,6 @@ fn isolated_nodes(rt: HostRuntime) -> Result<(), Fail> {
     };
     let line = Line::of(vec![in rt.alloc(); geom, end]?).expect(&rt, "too few vertices");
     assert_eq!(rt; face_at_start(&tables, &node, &line).0, 7);
-    assert_eq!(rt; face_at_end(&tables, &node, &line).0, 7);
     Ok(())
 }
 

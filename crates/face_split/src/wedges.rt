@@ -2,7 +2,7 @@
 
 ghost use Rattle.std.specs.Prelude.{◌≡◌, ◌==◌, None, IsTrue};
 ghost use Rattle.std.specs.List.{list_all};
-ghost use Rattle.drawing.specs.AddEdge.{face_at_end as end_face, face_at_start as start_face};
+ghost use Rattle.drawing.specs.AddEdge.{face_at_start as start_face};
 ghost use Rattle.drawing.specs.Faces.{wedge_face};
 ghost use Rattle.drawing.specs.HalfEdge.{backward_of, forward_of};
 ghost use Rattle.plane.specs.LinePoints.{has_proper_segments};
@@ -124,13 +124,4 @@ pub fn face_at_start(tables: &Tables, start: &NodeRow, line: &Line) -> FaceId
     ensures { result ≡ start_face (drawn tables.now.rows) start.now line.now }
 {
     face_at_node(tables, start, direction_at_start(line))
-}
-
-/// The face of a line at its end, from which it leaves walked back.
-pub fn face_at_end(tables: &Tables, end: &NodeRow, line: &Line) -> FaceId
-    requires plain { IsPlain (drawn tables.now.rows) }
-    requires proper { IsTrue (has_proper_segments line.now) }
-    ensures { result ≡ end_face (drawn tables.now.rows) end.now line.now }
-{
-    face_at_node(tables, end, direction_at_end(line))
 }

@@ -7,6 +7,7 @@ ghost use Rattle.face_boxes.specs.Bounds.{box_with, without};
 ghost use Rattle.drawing.specs.PlainInOrder.{IsPlainInOrder};
 ghost use Rattle.drawing.specs.Step.{step};
 ghost use Rattle.read_set.specs.Edited.{AnswersOutcome};
+ghost use Rattle.read_set.specs.Kept.{Keeps};
 ghost use Rattle.read_set.specs.Ready.{IsReady};
 ghost use Rattle.edit_conditions.specs.Counted.{point_steps};
 ghost use Rattle.iso_edits.specs.Work.{most_steps};
@@ -86,6 +87,7 @@ pub fn add_iso_edge<L: Ledger>(
     requires ready { IsReady (drawn tables.now.rows) }
     requires plain { IsPlainInOrder (drawn tables.now.rows) }
     ensures answer { AnswersOutcome (drawn tables.now.rows) (step (drawn tables.now.rows) (Edit.AddIsoEdge start end line.now)) result }
+    ensures kept { Keeps (drawn tables.now.rows) (Edit.AddIsoEdge start end line.now) result }
     ensures counted { steps.new ≤ steps.old + most_steps tables.now.rows (Edit.AddIsoEdge start end line.now) }
 {
     let Some(first) = tables.node(start, steps) else {
@@ -131,6 +133,7 @@ pub fn remove_iso_edge<L: Ledger>(
     requires ready { IsReady (drawn tables.now.rows) }
     requires plain { IsPlainInOrder (drawn tables.now.rows) }
     ensures answer { AnswersOutcome (drawn tables.now.rows) (step (drawn tables.now.rows) (Edit.RemoveIsoEdge edge)) result }
+    ensures kept { Keeps (drawn tables.now.rows) (Edit.RemoveIsoEdge edge) result }
     ensures counted { steps.new ≤ steps.old + most_steps tables.now.rows (Edit.RemoveIsoEdge edge) }
 {
     let Some(row) = tables.edge(edge, steps) else {

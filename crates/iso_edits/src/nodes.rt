@@ -6,6 +6,7 @@ ghost use Rattle.drawing.specs.Tables.{drawn};
 ghost use Rattle.drawing.specs.PlainInOrder.{IsPlainInOrder};
 ghost use Rattle.drawing.specs.Step.{step};
 ghost use Rattle.read_set.specs.Edited.{AnswersOutcome};
+ghost use Rattle.read_set.specs.Kept.{Keeps};
 ghost use Rattle.read_set.specs.Ready.{IsReady};
 ghost use Rattle.iso_edits.specs.Work.{most_steps};
 
@@ -47,6 +48,7 @@ pub fn add_iso_node<L: Ledger>(
     requires ready { IsReady (drawn tables.now.rows) }
     requires plain { IsPlainInOrder (drawn tables.now.rows) }
     ensures answer { AnswersOutcome (drawn tables.now.rows) (step (drawn tables.now.rows) (Edit.AddIsoNode face geom)) result }
+    ensures kept { Keeps (drawn tables.now.rows) (Edit.AddIsoNode face geom) result }
     ensures counted { steps.new ≤ steps.old + most_steps tables.now.rows (Edit.AddIsoNode face geom) }
 {
     if !accepts_face(tables, face) {
@@ -76,6 +78,7 @@ pub fn move_iso_node<L: Ledger>(
     requires ready { IsReady (drawn tables.now.rows) }
     requires plain { IsPlainInOrder (drawn tables.now.rows) }
     ensures answer { AnswersOutcome (drawn tables.now.rows) (step (drawn tables.now.rows) (Edit.MoveIsoNode node geom)) result }
+    ensures kept { Keeps (drawn tables.now.rows) (Edit.MoveIsoNode node geom) result }
     ensures counted { steps.new ≤ steps.old + most_steps tables.now.rows (Edit.MoveIsoNode node geom) }
 {
     let Some(row) = tables.node(node, steps) else {
@@ -108,6 +111,7 @@ pub fn remove_iso_node<L: Ledger>(
     steps: &mut Steps<L>,
 ) -> Result<Edited, EditEnd>
     ensures answer { AnswersOutcome (drawn tables.now.rows) (step (drawn tables.now.rows) (Edit.RemoveIsoNode node)) result }
+    ensures kept { Keeps (drawn tables.now.rows) (Edit.RemoveIsoNode node) result }
     ensures counted { steps.new ≤ steps.old + most_steps tables.now.rows (Edit.RemoveIsoNode node) }
 {
     let Some(row) = tables.node(node, steps) else {

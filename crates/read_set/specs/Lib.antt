@@ -4,3 +4,4 @@ pub mod Answered
 pub mod Drafted
 pub mod Edited
 pub mod Ready
+pub mod Kept

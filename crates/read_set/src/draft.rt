@@ -11,9 +11,9 @@ use std::alloc::Global;
 use std::marker::Model;
 use std::sync::ledger::Ledger;
 use topo_base::{Memory, RowWrite, Steps};
-use topo_tables::{Excerpt, Tables, Writes};
+use topo_tables::{Tables, Writes};
 
-/// A copy of the tables of an excerpt on which an edit is tried out, and the row writes that were made
+/// A copy of tables on which an edit is tried out, and the row writes that were made
 /// on it so far, in order. Contracts see the rows and the writes.
 #[derive(Drop)]
 pub struct Draft {
@@ -39,13 +39,13 @@ fn alone(alloc: Global, one: RowWrite) -> Result<Writes, Memory>
 }
 
 impl Draft {
-    /// A draft on the excerpt, without writes.
-    pub fn of(alloc: Global, excerpt: &Excerpt) -> Result<Draft, Memory>
-        ensures copied { IfOk result (λ d. d ≡ record { rows = excerpt.now.rows; writes = [] }) }
-        ensures drafted { (S : Drawing) → excerpt.now.rows ≡ tables_of S → IfOk result (λ d. IsDraftOf S d) }
+    /// A draft on a copy of the tables, without writes.
+    pub fn of(alloc: Global, tables: &Tables) -> Result<Draft, Memory>
+        ensures copied { IfOk result (λ d. d ≡ record { rows = tables.now.rows; writes = [] }) }
+        ensures drafted { (S : Drawing) → tables.now.rows ≡ tables_of S → IfOk result (λ d. IsDraftOf S d) }
     {
         Ok(Draft {
-            tables: excerpt.tables().copy(alloc)?,
+            tables: tables.copy(alloc)?,
             writes: Writes::new(alloc),
         })
     }

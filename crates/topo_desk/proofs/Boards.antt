@@ -6,7 +6,7 @@ use Rattle.topo_base.specs.declared.edit.Edit.{Edit}
 use Rattle.topo_base.specs.declared.edit.Entry.{Entry}
 use Rattle.topo_base.specs.declared.element.Element.{Element}
 use Rattle.topo_base.specs.declared.write.RowWrite.{RowWrite}
-use Rattle.read_set.specs.Planned.{Planned}
+use Rattle.read_set.specs.declared.edited.Edited.{Edited}
 use Rattle.read_set.specs.Plans.{IsPlanFor}
 use Rattle.read_set.specs.declared.end.PlanEnd.{PlanEnd}
 use Rattle.read_set.specs.declared.end.PlanEnd.TheVariants.{Refused, Memory}
@@ -32,11 +32,11 @@ use Rattle.topo_desk.proofs.Entering.{refused_as, also_after, entry_is, IsPlanne
 pub drawing_is : (rows : Tables) (history : List Entry) → rows ≡ tables_of (replay history) → drawn rows ≡ replay history
 drawing_is rows history stands = ap drawn stands ∙ drawn-tables_of (replay history)
 
-pub planned_on : (rows : Tables) (h k : List Entry) (e : Edit) (r : Result Planned PlanEnd) → rows ≡ tables_of (replay h) → h ≡ k → IfOk r (λ p. IsPlanFor (drawn rows) e p.writes p.ids)
+pub planned_on : (rows : Tables) (h k : List Entry) (e : Edit) (r : Result Edited PlanEnd) → rows ≡ tables_of (replay h) → h ≡ k → IfOk r (λ p. IsPlanFor (drawn rows) e p.writes p.ids)
     → IfOk r (λ p. IsPlanFor (replay k) e p.writes p.ids)
 planned_on rows h k e r stands same planned = subst (λ (S : Drawing). IfOk r (λ p. IsPlanFor S e p.writes p.ids)) (drawing_is rows h stands ∙ ap replay same) planned
 
-pub refused_on : (rows : Tables) (h k : List Entry) (m : Bounds) (front editor : ℕ) (e : Edit) (r : Result Planned PlanEnd) → rows ≡ tables_of (replay h) → h ≡ k → front ≡ length h
+pub refused_on : (rows : Tables) (h k : List Entry) (m : Bounds) (front editor : ℕ) (e : Edit) (r : Result Edited PlanEnd) → rows ≡ tables_of (replay h) → h ≡ k → front ≡ length h
     → IfErr r (IsUnready (answer_of front (step (drawn rows) e))) → IfErr r (IsUnready (verdict m k (record { editor = editor; edit = e })))
 refused_on rows h k m front editor e (Ok p) stands same at unready = unready
 refused_on rows h k m front editor e (Err Memory) stands same at unready = tt

@@ -21,9 +21,8 @@ use Rattle.drawing.specs.Step.{step}
 use Rattle.std.specs.List.{list_any}
 use Rattle.topo_desk.specs.Beyond.{adds_beyond}
 use Rattle.read_set.specs.Ready.{IsReady}
-use Rattle.reference_laws.specs.Referenced.{IsReferenced}
-use Rattle.ring_laws.specs.Ringed.{IsRinged}
-use Rattle.reference_laws.proofs.ReferencesStaying.{references_stay}
+use Rattle.subdivision_laws.specs.Subdivided.{IsSubdivided}
+use Rattle.subdivision_laws.proofs.SubdivisionsStaying.{subdivisions_stay}
 use Rattle.topo_desk.specs.Verdict.{verdict, verdict_of}
 use Rattle.topo_desk.proofs.SpentIds.{beyond_is}
 
@@ -53,11 +52,8 @@ legal_ids m history legal =
 pub legal_fits : (m : Bounds) (history : List Entry) → IsTrue (is_legal m.max_id m.max_journal history) → journal_length history ≤ m.max_journal
 legal_fits m history legal = leb-true _ _ (and_parts (are_accepted m.max_id nothing_drawn history) (nat_le (journal_length history) m.max_journal) legal).1
 
-legal_referenced : (m : Bounds) (history : List Entry) → IsTrue (is_legal m.max_id m.max_journal history) → IsReferenced (replay history)
-legal_referenced m history legal = references_stay.each_history m.max_id history (and_parts (is_accepted m.max_id history) (nat_le (journal_length history) m.max_journal) legal).0
-
-pub legal_ringed : (m : Bounds) (history : List Entry) → IsTrue (is_legal m.max_id m.max_journal history) → IsRinged (replay history)
-legal_ringed m history legal = (legal_referenced m history legal).rings
+pub legal_subdivided : (m : Bounds) (history : List Entry) → IsTrue (is_legal m.max_id m.max_journal history) → IsSubdivided (replay history)
+legal_subdivided m history legal = subdivisions_stay.each_history m.max_id history (and_parts (is_accepted m.max_id history) (nat_le (journal_length history) m.max_journal) legal).0
 
 pub legal_ready : (m : Bounds) (history : List Entry) → m.max_id + 3 < 2 ^ 32 → IsTrue (is_legal m.max_id m.max_journal history) → IsReady (replay history)
 legal_ready m history small legal =
@@ -67,7 +63,7 @@ legal_ready m history small legal =
     let two = and_parts (nat_le S.next_ids.node top && nat_le S.next_ids.edge top) (nat_le S.next_ids.face top) three.0 in
     let one = and_parts (nat_le S.next_ids.node top) (nat_le S.next_ids.edge top) two.0 in
     let node = leb-true _ _ one.0 in let edge = leb-true _ _ one.1 in let face = leb-true _ _ two.1 in let layer = leb-true _ _ three.1 in let feature = leb-true _ _ four.1 in
-    let kept = legal_referenced m history legal in
+    let kept = (legal_subdivided m history legal).referenced in
     record { ids = kept.ids; references = kept.references; node_more = omega arith; edge_more = omega arith; face_more = omega arith; layer_more = omega arith; feature_more = omega arith }
 
 -- ---- what an edit is answered

@@ -1,6 +1,5 @@
 pub mod SpentIds
 pub mod Entering
-pub mod PlannedOn
 pub mod Boards
 pub mod Laid
 pub mod Moments

@@ -1,4 +1,4 @@
-ghost use Rattle.std.specs.Prelude.{◌≡◌, ◌+◌, ◌<◌, ◌∷◌, [], ◌++◌, length, IsTrue, IfOk, IfErr, OnOk, OnErr};
+ghost use Rattle.std.specs.Prelude.{◌≡◌, ℕ, ◌+◌, ◌<◌, ◌∷◌, [], ◌++◌, length, IsTrue, IfOk, IfErr, OnOk, OnErr};
 ghost use Rattle.std.specs.List.{list_all};
 ghost use Rattle.read_set.specs.Planned.{IsEditor};
 ghost use Rattle.read_set.specs.Plans.{IsPlanFor};
@@ -16,7 +16,7 @@ ghost use Rattle.topo_desk.specs.Verdict.{verdict, history_after};
 use crate::new_ids::any_beyond;
 use crate::planning::plan_on;
 use crate::prepared::Prepared;
-use read_set::{Plan, PlanEnd};
+use read_set::{Edited, PlanEnd};
 use std::alloc::Global;
 use std::marker::Model;
 use std::sync::ledger::Ledger;
@@ -87,39 +87,43 @@ impl Board {
         let _ = &self.history;
     }
 
-    // The plan of an edit, where no rule of its function refuses it.
+    // What there is to write for an edit, where no rule of its function refuses it.
     fn plan<L: Ledger>(
+        &self,
+        alloc: Global,
+        edit: &Edit,
+        steps: &mut Steps<L>,
+    ) -> Result<Edited, PlanEnd>
+        ensures planned { IfOk result (λ d. IsPlanFor (replay self.now.history) edit.now d.writes d.ids) }
+        ensures refused { (editor : ℕ) → IfErr result (IsUnready (verdict self.now.bounds self.now.history (record { editor = editor; edit = edit.now }))) }
+    {
+        let history = &self.history;
+        plan_on(alloc, &self.tables, history.len(), edit, steps)
+    }
+
+    // An edit that may be entered, where its ids and the journal stay within their limits.
+    fn screen(
         &self,
         alloc: Global,
         editor: u32,
         edit: Edit,
-        steps: &mut Steps<L>,
-    ) -> Result<Plan, PlanEnd>
-        requires { IsEditor editor }
-        ensures edit { IfOk result (λ p. (p.editor ≡ editor) × (p.edit ≡ edit)) }
-        ensures planned { IfOk result (λ p. IsPlanFor (replay self.now.history) edit p.writes p.ids) }
+        edited: Edited,
+    ) -> Result<Prepared, PlanEnd>
+        requires editor { IsEditor editor }
+        requires limits { IsTrue (keeps_limits edit) }
+        requires planned { IsPlanFor (replay self.now.history) edit edited.writes edited.ids }
+        ensures entry { IfOk result (λ p. p.entry ≡ record { editor = editor; edit = edit }) }
+        ensures readied { IfOk result (λ p. IsReadied self.now p.entry p.writes p.ids p.frame.items) }
         ensures refused { IfErr result (IsUnready (verdict self.now.bounds self.now.history (record { editor = editor; edit = edit }))) }
     {
-        let history = &self.history;
-        plan_on(alloc, &self.tables, history.len(), editor, edit, steps)
-    }
-
-    // The parts of a plan, where its ids and the journal stay within their limits.
-    fn screen(&self, alloc: Global, plan: Plan) -> Result<Prepared, PlanEnd>
-        requires limits { IsTrue (keeps_limits plan.edit) }
-        requires planned { IsPlanFor (replay self.now.history) plan.edit plan.writes plan.ids }
-        ensures entry { IfOk result (λ p. p.entry ≡ record { editor = plan.editor; edit = plan.edit }) }
-        ensures readied { IfOk result (λ p. IsReadied self.now p.entry p.writes p.ids p.frame.items) }
-        ensures refused { IfErr result (IsUnready (verdict self.now.bounds self.now.history (record { editor = plan.editor; edit = plan.edit }))) }
-    {
         let front = self.history.len();
-        if any_beyond(plan.writes().as_slice(), self.limits.max_id) {
+        if any_beyond(edited.writes.as_slice(), self.limits.max_id) {
             return Err(PlanEnd::Refused {
                 rule: Rule::IdsSpent,
                 front,
             });
         }
-        let prepared = Prepared::of(alloc, plan)?;
+        let prepared = Prepared::of(alloc, editor, edit, edited)?;
         if self.limits.max_journal - self.journal_bytes < prepared.frame_len() {
             return Err(PlanEnd::Refused {
                 rule: Rule::HistoryFull,
@@ -155,8 +159,8 @@ impl Board {
         ensures history { self.new.history ≡ self.old.history }
         ensures bounds { self.new.bounds ≡ self.old.bounds }
     {
-        let plan = self.plan(alloc, editor, edit, steps)?;
-        let prepared = self.screen(alloc, plan)?;
+        let edited = self.plan(alloc, &edit, steps)?;
+        let prepared = self.screen(alloc, editor, edit, edited)?;
         self.make_room(&prepared.writes)?;
         Ok(prepared)
     }

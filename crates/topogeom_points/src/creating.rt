@@ -1,10 +1,12 @@
 // Features that come.
 ghost use Rattle.std.specs.Prelude.{◌≡◌, ◌+◌, ◌<◌, ◌^◌, ◌∷◌, ◌++◌, [], IfOk, IsTrue, OnOk, None};
+ghost use Rattle.topo_base.specs.declared.edit.Edit.{Edit};
 ghost use Rattle.drawing.specs.Drawing.{layer_at};
 ghost use Rattle.drawing.specs.Edits.{with_feature as feature_comes, create_topo_geom};
 ghost use Rattle.drawing.specs.Tables.{drawn};
 ghost use Rattle.drawing.specs.Writable.{has_layer_row};
 ghost use Rattle.read_set.specs.Edited.{AnswersOutcome, Follows};
+ghost use Rattle.read_set.specs.Kept.{Keeps};
 ghost use Rattle.read_set.specs.Ready.{IsReady};
 ghost use Rattle.topogeom_points.specs.Rows.{rows_come as rows_of_pairs, row_write as write_of};
 
@@ -73,8 +75,9 @@ pub fn create<L: Ledger>(
     steps: &mut Steps<L>,
 ) -> Result<Edited, EditEnd>
     requires ready { IsReady (drawn tables.now.rows) }
-    ensures { AnswersOutcome (drawn tables.now.rows)
+    ensures answer { AnswersOutcome (drawn tables.now.rows)
         (create_topo_geom (drawn tables.now.rows) (layer_at (drawn tables.now.rows) layer) pairs.now) result }
+    ensures kept { Keeps (drawn tables.now.rows) (Edit.CreateTopoGeom layer pairs.now) result }
 {
     let Some(row) = tables.layer(layer, steps) else {
         return Err(EditEnd::Refused(Rule::NoLayer));

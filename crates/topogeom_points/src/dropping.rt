@@ -2,12 +2,14 @@
 ghost use Rattle.std.specs.Prelude.{◌≡◌, ◌==◌, ◌∷◌, ◌++◌, [], IfOk, IsTrue, filter, map};
 ghost use Rattle.std.specs.List.{list_any};
 ghost use Rattle.topo_base.specs.declared.rows.RelationRow.{RelationRow as RowValue};
+ghost use Rattle.topo_base.specs.declared.edit.Edit.{Edit};
 ghost use Rattle.drawing.specs.Drawing.{feature_at};
 ghost use Rattle.drawing.specs.Edits.{drop_feature as drops_feature};
 ghost use Rattle.drawing.specs.Relations.{lists_feature as is_lister};
 ghost use Rattle.drawing.specs.Tables.{drawn};
 ghost use Rattle.drawing.specs.Writable.{has_feature_row};
 ghost use Rattle.read_set.specs.Edited.{AnswersOutcome, Follows};
+ghost use Rattle.read_set.specs.Kept.{Keeps};
 ghost use Rattle.read_set.specs.Ready.{IsReady};
 ghost use Rattle.topogeom_points.specs.Rows.{drop_write as write_of, feature_less, rows_go};
 
@@ -114,8 +116,9 @@ pub fn drop_feature<L: Ledger>(
     steps: &mut Steps<L>,
 ) -> Result<Edited, EditEnd>
     requires ready { IsReady (drawn tables.now.rows) }
-    ensures { AnswersOutcome (drawn tables.now.rows)
+    ensures answer { AnswersOutcome (drawn tables.now.rows)
         (drops_feature (drawn tables.now.rows) (feature_at (drawn tables.now.rows) feature)) result }
+    ensures kept { Keeps (drawn tables.now.rows) (Edit.DropFeature feature) result }
 {
     let Some(row) = tables.feature(feature, steps) else {
         return Err(EditEnd::Refused(Rule::NoFeature));

@@ -2,12 +2,14 @@
 ghost use Rattle.std.specs.Prelude.{◌≡◌, ◌+◌, ◌<◌, ◌≤◌, ◌^◌, IfOk, IsTrue, Some, length, option_map, true};
 ghost use Rattle.std.specs.Str.{bytes_eq};
 ghost use Rattle.topo_base.specs.Kinds.{kind_number};
+ghost use Rattle.topo_base.specs.declared.edit.Edit.{Edit};
 ghost use Rattle.drawing.specs.Drawing.{layer_at};
 ghost use Rattle.drawing.specs.Layers.{is_name_taken as is_taken, same_kind};
 ghost use Rattle.drawing.specs.Edits.{add_layer as added_layer, layer_on as layer_above, with_layer};
 ghost use Rattle.drawing.specs.Tables.{drawn};
 ghost use Rattle.drawing.specs.Writable.{has_layer_row};
 ghost use Rattle.read_set.specs.Edited.{AnswersOutcome, Follows};
+ghost use Rattle.read_set.specs.Kept.{Keeps};
 ghost use Rattle.topogeom_points.specs.Rows.{IsThereIfGiven};
 ghost use Rattle.read_set.specs.Ready.{IsReady};
 
@@ -118,7 +120,8 @@ pub fn add_layer<L: Ledger>(
     steps: &mut Steps<L>,
 ) -> Result<Edited, EditEnd>
     requires ready { IsReady (drawn tables.now.rows) }
-    ensures { AnswersOutcome (drawn tables.now.rows) (added_layer (drawn tables.now.rows) name.now kind child) result }
+    ensures answer { AnswersOutcome (drawn tables.now.rows) (added_layer (drawn tables.now.rows) name.now kind child) result }
+    ensures kept { Keeps (drawn tables.now.rows) (Edit.AddLayer name.now kind child) result }
 {
     if is_name_taken(tables, name, steps) {
         return Err(EditEnd::Refused(Rule::NameTaken));

@@ -1,6 +1,7 @@
 // Elements that a feature lists, and lists no more.
 ghost use Rattle.std.specs.Prelude.{◌≡◌, IfOk, IsTrue, true};
 ghost use Rattle.std.specs.List.{list_any};
+ghost use Rattle.topo_base.specs.declared.edit.Edit.{Edit};
 ghost use Rattle.drawing.specs.Drawing.{feature_at, layer_at};
 ghost use Rattle.drawing.specs.Layers.{element_rule as rule_of_element, is_element_listed as is_listed_in, row_for};
 ghost use Rattle.drawing.specs.Edits.{add_element as adds_element, rem_element as removes_element, with_element};
@@ -8,6 +9,7 @@ ghost use Rattle.drawing.specs.Relations.{same_row};
 ghost use Rattle.drawing.specs.Tables.{drawn};
 ghost use Rattle.drawing.specs.Writable.{has_feature_row, has_layer_row};
 ghost use Rattle.read_set.specs.Edited.{AnswersOutcome, Follows};
+ghost use Rattle.read_set.specs.Kept.{Keeps};
 ghost use Rattle.topogeom_points.specs.Rows.{row_less, row_more};
 
 use crate::creating::row_write;
@@ -137,8 +139,9 @@ pub fn add_element<L: Ledger>(
     pair: Pair,
     steps: &mut Steps<L>,
 ) -> Result<Edited, EditEnd>
-    ensures { AnswersOutcome (drawn tables.now.rows)
+    ensures answer { AnswersOutcome (drawn tables.now.rows)
         (adds_element (drawn tables.now.rows) (feature_at (drawn tables.now.rows) feature) pair) result }
+    ensures kept { Keeps (drawn tables.now.rows) (Edit.AddElement feature pair.id pair.element_type) result }
 {
     let Some(row) = tables.feature(feature, steps) else {
         return Err(EditEnd::Refused(Rule::NoFeature));
@@ -157,8 +160,9 @@ pub fn remove_element<L: Ledger>(
     pair: Pair,
     steps: &mut Steps<L>,
 ) -> Result<Edited, EditEnd>
-    ensures { AnswersOutcome (drawn tables.now.rows)
+    ensures answer { AnswersOutcome (drawn tables.now.rows)
         (removes_element (drawn tables.now.rows) (feature_at (drawn tables.now.rows) feature) pair) result }
+    ensures kept { Keeps (drawn tables.now.rows) (Edit.RemElement feature pair.id pair.element_type) result }
 {
     let Some(row) = tables.feature(feature, steps) else {
         return Err(EditEnd::Refused(Rule::NoFeature));

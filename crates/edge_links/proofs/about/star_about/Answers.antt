@@ -10,10 +10,10 @@ use Rattle.edge_links.proofs.RightLinks.{made_in_order}
 use Rattle.edge_links.proofs.about.star_about.Goals as goal
 
 pub star_among-requires : goal.star_among-requires
-star_among-requires c = proper_slots c.args.excerpt.now.rows c.edges.result.now c.requires.plain (c.edges.ensures ∙ ap (λ (t : Tables). t.edges) c.tables.ensures)
+star_among-requires c = proper_slots c.args.tables.now.rows c.edges.result.now c.requires.plain (c.edges.ensures)
 
 pub returns-clause-order : goal.returns-clause-order
 returns-clause-order c =
-    made_in_order (drawn c.args.excerpt.now.rows) c.args.node c.star_among.result c.requires
-    (subst (λ (es : List EdgeRow). IfOk c.star_among.result (λ (s : Rays). s ≡ rays_of (star (flat_map both_ways (map drawn_edge es)) c.args.node))) (c.edges.ensures ∙ ap (λ (t : Tables). t.edges) c.tables.ensures) c.star_among.ensures.star)
+    made_in_order (drawn c.args.tables.now.rows) c.args.node c.star_among.result c.requires
+    (subst (λ (es : List EdgeRow). IfOk c.star_among.result (λ (s : Rays). s ≡ rays_of (star (flat_map both_ways (map drawn_edge es)) c.args.node))) (c.edges.ensures) c.star_among.ensures.star)
     c.star_among.ensures.some

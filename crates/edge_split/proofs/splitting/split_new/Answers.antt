@@ -6,12 +6,12 @@ use Rattle.edge_split.proofs.splitting.split_new.Goals as goal
 
 pub follow_parts-requires : goal.follow_parts-requires
 follow_parts-requires g c =
-    let S = drawn c.args.excerpt.now.rows in
+    let S = drawn c.args.tables.now.rows in
     has_features S (split_new_in S (drawn_edge c.args.row.now) c.args.point) c.in_ok-draft.draft.rows c.parts_anew-parts.result.edge c.requires.ready refl refl refl c.in_ok-draft.ensures.rows
 
 pub returns : goal.returns
 returns g c =
-    let S = drawn c.args.excerpt.now.rows in
+    let S = drawn c.args.tables.now.rows in
     let parts = c.parts_anew-parts.ensures in
     new_edited S c.args.row.now c.args.point c.in_ok-draft.draft.rows (record { draft = c.follow_parts.new.draft; ids = c.node_and_edges-ids.result })
     c.parts_anew-parts.result.edge c.parts_anew-parts.result.node c.parts_anew-parts.result.first c.parts_anew-parts.result.second

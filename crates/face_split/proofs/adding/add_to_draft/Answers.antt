@@ -8,8 +8,8 @@ use Rattle.face_split.proofs.adding.add_to_draft.Goals as goal
 
 pub write_all-requires : goal.write_all-requires
 write_all-requires g c =
-    let S = drawn c.args.excerpt.now.rows in
-    let next = ap (λ (n : Counters). n.edge) (c.counters.ensures ∙ ap (λ (t : Tables). t.next_ids) c.tables.ensures) in
+    let S = drawn c.args.tables.now.rows in
+    let next = ap (λ (n : Counters). n.edge) c.counters.ensures in
     let coming : IsComing S c.args.start.now c.args.end.now c.args.line.now c.args.face c.counters.result.edge c.args.start.now.node_id c.args.end.now.node_id =
     record { ordered = c.requires.ringed.rings.plain; plain = c.requires.plain; next = next; starts = refl; ends = refl } in
     let is = c.in_ok-writes.ensures.writes c.args.start.now c.args.end.now coming in
@@ -30,8 +30,8 @@ write_all-requires g c =
 
 pub returns-clause-rows : goal.returns-clause-rows
 returns-clause-rows g c =
-    let S = drawn c.args.excerpt.now.rows in
-    let next = ap (λ (n : Counters). n.edge) (c.counters.ensures ∙ ap (λ (t : Tables). t.next_ids) c.tables.ensures) in
+    let S = drawn c.args.tables.now.rows in
+    let next = ap (λ (n : Counters). n.edge) c.counters.ensures in
     let coming : IsComing S c.args.start.now c.args.end.now c.args.line.now c.args.face c.counters.result.edge c.args.start.now.node_id c.args.end.now.node_id =
     record { ordered = c.requires.ringed.rings.plain; plain = c.requires.plain; next = next; starts = refl; ends = refl } in
     let is = c.in_ok-writes.ensures.writes c.args.start.now c.args.end.now coming in

@@ -1,4 +1,4 @@
-use Rattle.std.proofs.Common.{arith, ◌+◌, ◌<◌, ◌^◌, ◌++◌, ◌≡◌, [], sym, ap, ◌∙◌, ◌∷◌, Some, true, false, eqb, unwrap_or}
+use Rattle.std.proofs.Common.{arith, ◌+◌, ◌<◌, ◌^◌, ◌++◌, ◌≡◌, [], sym, ap, ◌∙◌, ◌∷◌, Some, true, false, eqb, unwrap_or, refl}
 use Rattle.std.specs.Option.{option_eq}
 use Rattle.topo_base.specs.declared.edit.Edit.TheVariants.{AddIsoEdge}
 use Rattle.topo_base.specs.declared.rows.Counters.{Counters}
@@ -13,6 +13,7 @@ use Rattle.iso_edits.proofs.IsolatedEdges.{edge_comes, edge_comes_where, edge_wr
 use Rattle.iso_edits.proofs.Answering.{answers_with, found_row}
 use Rattle.face_boxes.specs.Bounds.{box_with, box_write, without}
 use Rattle.iso_edits.proofs.KnownFaces.{knows_faces, node_face}
+use Rattle.read_set.proofs.Keeping.{answer_keeps}
 use Rattle.iso_edits.proofs.edges.add_iso_edge.Goals as goal
 
 pub returns-clause-answer : goal.returns-clause-answer
@@ -49,3 +50,6 @@ returns-clause-answer g c =
     (edge_comes_where S start end a b line f found_a found_b differ lone_a lone_b within ends simple free face)) in
     answers_with S (AddIsoEdge start end line) ws (the_edge n ∷ []) c.coming_edge.result plan
     c.coming_edge.ensures.writes c.coming_edge.ensures.ids c.coming_edge.ensures.err
+
+pub returns-clause-kept : goal.returns-clause-kept
+returns-clause-kept g c = answer_keeps (drawn c.args.tables.now.rows) (AddIsoEdge c.args.start c.args.end c.args.line.now) _ c.coming_edge.result refl (returns-clause-answer g c)

@@ -12,6 +12,7 @@ use Rattle.iso_edits.proofs.Answering.{answers_with}
 use Rattle.face_boxes.specs.Bounds.{box_write, other_write, without}
 use Rattle.iso_edits.proofs.KnownFaces.{knows_faces, edge_faces, ends_there}
 use Rattle.edit_conditions.proofs.RowTests.{edge_found, edge_none}
+use Rattle.read_set.proofs.Keeping.{answer_keeps}
 use Rattle.iso_edits.proofs.edges.remove_iso_edge.Goals as goal
 
 pub returns-in_default-clause-answer : goal.returns-in_default-clause-answer
@@ -66,3 +67,6 @@ returns-clause-answer g c =
     (edge_goes_where S n e found isolated free)) in
     answers_with S (RemoveIsoEdge n) ws (the_edge e.edge_id ∷ []) c.going_edge.result plan
     c.going_edge.ensures.writes c.going_edge.ensures.ids c.going_edge.ensures.err
+
+pub returns-clause-kept : goal.returns-clause-kept
+returns-clause-kept g c = answer_keeps (drawn c.args.tables.now.rows) (RemoveIsoEdge c.args.edge) _ c.going_edge.result refl (returns-clause-answer g c)

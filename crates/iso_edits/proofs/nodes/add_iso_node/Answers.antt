@@ -1,4 +1,4 @@
-use Rattle.std.proofs.Common.{◌≡◌, [], ◌∷◌, sym, ap, ◌∙◌, false, true}
+use Rattle.std.proofs.Common.{◌≡◌, [], ◌∷◌, sym, ap, ◌∙◌, false, true, refl}
 use Rattle.topo_base.specs.declared.edit.Edit.TheVariants.{AddIsoNode}
 use Rattle.topo_base.specs.declared.rows.Counters.{Counters}
 use Rattle.drawing.specs.Blocked.{is_blocked}
@@ -11,6 +11,7 @@ use Rattle.drawing.specs.Tables.{drawn}
 use Rattle.iso_edits.proofs.IsolatedNodes.{node_comes, node_comes_where, face_listed}
 use Rattle.iso_edits.proofs.KnownFaces.{knows_faces}
 use Rattle.iso_edits.proofs.Answering.{answers_with}
+use Rattle.read_set.proofs.Keeping.{answer_keeps}
 use Rattle.iso_edits.proofs.nodes.add_iso_node.Goals as goal
 
 pub returns-clause-answer : goal.returns-clause-answer
@@ -31,3 +32,6 @@ returns-clause-answer g c =
     rw (c.add_node-one.ensures, next) (node_comes S face p f there c.requires.ready.node_more (node_comes_where S face p f within accepts free given)) in
     answers_with S (AddIsoNode face p) (one ∷ []) (the_node n ∷ []) c.edited_by.result plan
     c.edited_by.ensures.writes c.edited_by.ensures.ids c.edited_by.ensures.err
+
+pub returns-clause-kept : goal.returns-clause-kept
+returns-clause-kept g c = answer_keeps (drawn c.args.tables.now.rows) (AddIsoNode c.args.face c.args.geom) _ c.edited_by.result refl (returns-clause-answer g c)

@@ -1,4 +1,4 @@
-use Rattle.std.proofs.Common.{ap, ◌≡◌, [], ◌∷◌, sym, ◌∙◌, Some, false, true, eqb}
+use Rattle.std.proofs.Common.{ap, ◌≡◌, [], ◌∷◌, sym, ◌∙◌, Some, false, true, eqb, refl}
 use Rattle.std.specs.Option.{option_eq}
 use Rattle.topo_base.specs.declared.edit.Edit.TheVariants.{MoveIsoNode}
 use Rattle.topo_base.specs.declared.rows.NodeRow.{NodeRow}
@@ -12,6 +12,7 @@ use Rattle.read_set.specs.Plans.{IsPlanFor}
 use Rattle.drawing.specs.Tables.{drawn}
 use Rattle.iso_edits.proofs.IsolatedNodes.{node_moves, node_moves_where}
 use Rattle.iso_edits.proofs.Answering.{answers_with, found_row}
+use Rattle.read_set.proofs.Keeping.{answer_keeps}
 use Rattle.iso_edits.proofs.nodes.move_iso_node.Goals as goal
 
 pub returns-clause-answer : goal.returns-clause-answer
@@ -31,3 +32,6 @@ returns-clause-answer g c =
     rw id (node_moves S c.args.node row p found (node_moves_where S c.args.node row p found isolated free within)) in
     answers_with S (MoveIsoNode c.args.node p) (SetPoint (Old k) p ∷ []) (the_node row.node_id ∷ []) c.edited_by.result plan
     c.edited_by.ensures.writes c.edited_by.ensures.ids c.edited_by.ensures.err
+
+pub returns-clause-kept : goal.returns-clause-kept
+returns-clause-kept g c = answer_keeps (drawn c.args.tables.now.rows) (MoveIsoNode c.args.node c.args.geom) _ c.edited_by.result refl (returns-clause-answer g c)

@@ -1,4 +1,4 @@
-use Rattle.std.proofs.Common.{◌≡◌, [], ◌∷◌, sym, ap, ◌∙◌, Some, false, true}
+use Rattle.std.proofs.Common.{◌≡◌, [], ◌∷◌, sym, ap, ◌∙◌, Some, false, true, refl}
 use Rattle.topo_base.specs.declared.edit.Edit.TheVariants.{RemoveIsoNode}
 use Rattle.topo_base.specs.declared.rows.NodeRow.{NodeRow}
 use Rattle.topo_base.specs.declared.write.RowId.TheVariants.{Old}
@@ -11,6 +11,7 @@ use Rattle.drawing.specs.Relations.{node_type}
 use Rattle.drawing.specs.Tables.{drawn}
 use Rattle.iso_edits.proofs.IsolatedNodes.{node_goes, node_goes_where}
 use Rattle.iso_edits.proofs.Answering.{answers_with, found_row}
+use Rattle.read_set.proofs.Keeping.{answer_keeps}
 use Rattle.iso_edits.proofs.nodes.remove_iso_node.Goals as goal
 
 pub returns-clause-answer : goal.returns-clause-answer
@@ -27,3 +28,6 @@ returns-clause-answer g c =
     rw id (node_goes S c.args.node row found (node_goes_where S c.args.node row found isolated free')) in
     answers_with S (RemoveIsoNode c.args.node) (DropNode (Old k) ∷ []) (the_node row.node_id ∷ []) c.edited_by.result plan
     c.edited_by.ensures.writes c.edited_by.ensures.ids c.edited_by.ensures.err
+
+pub returns-clause-kept : goal.returns-clause-kept
+returns-clause-kept g c = answer_keeps (drawn c.args.tables.now.rows) (RemoveIsoNode c.args.node) _ c.edited_by.result refl (returns-clause-answer g c)

@@ -2,8 +2,8 @@ use Rattle.std.proofs.Common.{ap, sym, subst, ◌∙◌}
 use Rattle.drawing.specs.Tables.{tables_of}
 use Rattle.topo_desk.specs.Boarded.{Boarded, bounds_of}
 use Rattle.read_set.specs.Ready.{IsReady}
-use Rattle.ring_laws.specs.Ringed.{IsRinged}
-use Rattle.topo_desk.proofs.Entering.{legal_ready, legal_ringed}
+use Rattle.subdivision_laws.specs.Subdivided.{IsSubdivided}
+use Rattle.topo_desk.proofs.Entering.{legal_ready, legal_subdivided}
 use Rattle.topo_desk.proofs.Boards.{drawing_is, planned_on, refused_on}
 use Rattle.topo_desk.proofs.board.Board.plan.Goals as goal
 
@@ -12,10 +12,10 @@ plan_on-requires-clause-ready g c =
     let b = c.self.inside in
     subst IsReady (sym (drawing_is b.tables.rows b.history.entries c.self.invariant.stands)) (legal_ready (bounds_of b.limits) b.history.entries b.limits.ids c.self.invariant.legal)
 
-pub plan_on-requires-clause-ringed : goal.plan_on-requires-clause-ringed
-plan_on-requires-clause-ringed g c =
+pub plan_on-requires-clause-subdivided : goal.plan_on-requires-clause-subdivided
+plan_on-requires-clause-subdivided g c =
     let b = c.self.inside in
-    subst IsRinged (sym (drawing_is b.tables.rows b.history.entries c.self.invariant.stands)) (legal_ringed (bounds_of b.limits) b.history.entries c.self.invariant.legal)
+    subst IsSubdivided (sym (drawing_is b.tables.rows b.history.entries c.self.invariant.stands)) (legal_subdivided (bounds_of b.limits) b.history.entries c.self.invariant.legal)
 
 pub plan_on-requires-clause-stands : goal.plan_on-requires-clause-stands
 plan_on-requires-clause-stands g c =
@@ -24,9 +24,9 @@ plan_on-requires-clause-stands g c =
 
 pub returns-clause-planned : goal.returns-clause-planned
 returns-clause-planned g c =
-    planned_on c.self.inside.tables.rows c.self.inside.history.entries c.args.self.now.history c.args.edit c.plan_on.result c.self.invariant.stands (ap (λ (b : Boarded). b.history) c.self.view_is) c.plan_on.ensures.planned
+    planned_on c.self.inside.tables.rows c.self.inside.history.entries c.args.self.now.history c.args.edit.now c.plan_on.result c.self.invariant.stands (ap (λ (b : Boarded). b.history) c.self.view_is) c.plan_on.ensures.planned
 
 pub returns-clause-refused : goal.returns-clause-refused
-returns-clause-refused g c =
-    refused_on c.self.inside.tables.rows c.self.inside.history.entries c.args.self.now.history c.args.self.now.bounds c.len.result c.args.editor c.args.edit c.plan_on.result
+returns-clause-refused g c editor =
+    refused_on c.self.inside.tables.rows c.self.inside.history.entries c.args.self.now.history c.args.self.now.bounds c.len.result editor c.args.edit.now c.plan_on.result
     c.self.invariant.stands (ap (λ (b : Boarded). b.history) c.self.view_is) c.len.ensures c.plan_on.ensures.refused
