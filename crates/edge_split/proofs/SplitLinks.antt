@@ -2,27 +2,25 @@
 use Rattle.std.proofs.Common.{◌≡◌, ℕ, refl, sym, ◌∙◌, ap, subst, ◌⊎◌, inl, inr, ⊎_elim, Bool, true, false, cond, List}
 use Rattle.std.specs.Prelude.{flat_map, ◌==◌}
 use Rattle.std.specs.List.{Contains}
-use Rattle.std.proofs.lemmas.Bool.{or_left, or_right, eqb-true, eq-eqb, false≢true, false_from_ne_true}
+use Rattle.std.proofs.lemmas.Bool.{eqb-true, eq-eqb, false≢true, false_from_ne_true}
 use Rattle.topo_base.specs.Point.{Point}
 use Rattle.topo_base.specs.declared.ids.Dart.{Dart}
 use Rattle.topo_base.specs.declared.rows.RelationRow.{RelationRow}
 use Rattle.topo_base.specs.declared.rows.Counters.{Counters}
-use Rattle.plane.specs.Direction.{Direction, is_nearer, quarter, same_direction, OneDirection, IsNotZero}
-use Rattle.drawing.specs.Drawing.{Drawing, Edge, is_end_of, is_isolated}
+use Rattle.drawing.specs.Drawing.{Drawing, Edge}
 use Rattle.drawing.specs.HalfEdge.{HalfEdge, backward_of, both_ways, dart_of, forward_of, half_edges, twin}
 use Rattle.drawing.specs.PlainInOrder.{IsPlainInOrder}
 use Rattle.drawing.specs.SplitEdge.{first_part, second_part}
 use Rattle.drawing.specs.Star.{leaving, next_of}
-use Rattle.plane.proofs.Directions.{nearer_self, nearer_total, same_in, same_out}
 use Rattle.face_rings.proofs.HalfLines.{HasPlainLines}
-use Rattle.face_rings.proofs.HalvesApart.{half_of, forward_there, backward_there, one_edge}
+use Rattle.face_rings.proofs.HalvesApart.{half_of, forward_there, backward_there, one_edge, twin_back}
 use Rattle.face_rings.proofs.Ranks.{by_bool}
-use Rattle.edge_links.proofs.Half.{twin_backward}
-use Rattle.ring_laws.proofs.Alike.{Alike, IsLike, like_self, near_alike}
-use Rattle.ring_laws.proofs.Known.{none_ends, none_leaves}
+use Rattle.ring_laws.proofs.Alike.{IsLike, like_self, near_alike, one_like, other_like}
+use Rattle.ring_laws.proofs.Known.{none_leaves}
 use Rattle.ring_laws.proofs.KnownStays.{new_isolated}
-use Rattle.ring_laws.proofs.SplitSides.{IsSplitInto, first_way, second_way, half_there, split_with}
+use Rattle.ring_laws.proofs.SplitSides.{IsSplitInto, half_there, split_with, at_new, node_of, first_like, second_like}
 use Rattle.ring_laws.proofs.Turning.{AreSpread, Turns, next_turns, spread_of, turns_next}
+use Rattle.ring_laws.proofs.Joint.{pair_turns}
 use Rattle.edge_split.specs.Renamed.{renamed}
 
 -- an edge that is split: both drawings are plain
@@ -39,43 +37,12 @@ pub record StandsFor (S : Drawing) (e : Edge) (id id' : ℕ) (fs : List Edge) (h
   pub like : IsLike h k
   pub name : dart_of k ≡ renamed e.edge_id id id' (dart_of h)
 
-twin_back : (e : Edge) → forward_of e ≡ twin (backward_of e)
-twin_back e = sym (twin_backward e)
-
--- ---- half-edges that stand for one are one
-own_way : (u : Direction) → IsNotZero u → same_direction u u ≡ true
-own_way u some = same_in u u (nearer_total u u u some some some (nearer_self u u) (nearer_self u u))
-
-pub like_one : (u v w : Direction) → IsNotZero u → IsNotZero v → Alike u w → Alike v w → OneDirection u v
-like_one u v w some other a b =
-    let e : quarter u v ≡ quarter u u = a.1 v ∙ b.0 w ∙ sym (a.1 u ∙ a.0 w) in
-    same_out u v some other (ap (λ q. q == 0) e ∙ own_way u some)
-
-pub turned_like : (u v : Direction) → Alike u v → Alike v u
-turned_like u v a = (λ r. sym (a.0 r), λ r. sym (a.1 r))
-
-one_like : (hs : List HalfEdge) (h g k : HalfEdge) → AreSpread hs → Contains hs h → Contains hs g → IsLike h k → IsLike g k → h ≡ g
-one_like hs h g k a ch cg l m = a.differ h g ch cg (l.node ∙ sym m.node) (like_one (leaving h) (leaving g) (leaving k) (a.some h ch) (a.some g cg) l.way m.way)
-
-other_like : (ks : List HalfEdge) (h k m : HalfEdge) → AreSpread ks → Contains ks k → Contains ks m → IsLike h k → IsLike h m → k ≡ m
-other_like ks h k m a ck cm l n =
-    a.differ k m ck cm (sym l.node ∙ n.node) (like_one (leaving k) (leaving m) (leaving h) (a.some k ck) (a.some m cm) (turned_like (leaving h) (leaving k) l.way) (turned_like (leaving h) (leaving m) n.way))
-
-node_of : {h k : HalfEdge} → h ≡ k → h.from_node ≡ k.from_node
-node_of e = ap (λ (x : HalfEdge). x.from_node) e
-
 -- ---- names
 own_name : (m id id' : ℕ) (way : Bool) → renamed m id id' (record { edge = m; forward = way }) ≡ record { edge = cond way id id'; forward = way }
 own_name m id id' way = ap (λ b. cond b (record { edge = cond way id id'; forward = way }) (record { edge = m; forward = way })) (eq-eqb m m refl)
 
 pub other_name : (m id id' : ℕ) (d : Dart) → (d.edge ≡ m → ⊥) → renamed m id id' d ≡ d
 other_name m id id' d other = ap (λ b. cond b (record { edge = cond d.forward id id'; forward = d.forward }) d) (false_from_ne_true (d.edge == m) (λ t. other (eqb-true d.edge m t)))
-
-first_like : (S : Drawing) (e : Edge) (p : Point) (id id' : ℕ) (fs : List Edge) → IsSplitInto S e p id id' fs → IsLike (forward_of e) (forward_of (first_part e S.next_ids.node p id))
-first_like S e p id id' fs split = record { node = refl; way = first_way p e.geom split.on split.not_first; left = refl; right = refl }
-
-second_like : (S : Drawing) (e : Edge) (p : Point) (id id' : ℕ) (fs : List Edge) → IsSplitInto S e p id id' fs → IsLike (backward_of e) (backward_of (second_part e S.next_ids.node p id'))
-second_like S e p id id' fs split = record { node = refl; way = second_way p e.geom split.on split.not_last; left = refl; right = refl }
 
 pub first_stands : (S : Drawing) (e : Edge) (p : Point) (id id' : ℕ) (fs : List Edge) → IsSplitInto S e p id id' fs → StandsFor S e id id' fs (forward_of e) (forward_of (first_part e S.next_ids.node p id))
 first_stands S e p id id' fs split = record {
@@ -148,9 +115,6 @@ stood_for S e p id id' fs split k ck far =
     (split.from r.edge r.there)
 
 -- ---- what is next stays next
-lone : (S : Drawing) → IsPlainInOrder S → HasPlainLines S → is_isolated S S.next_ids.node ≡ true
-lone S ordered good = new_isolated S ordered good
-
 turns_over : (S : Drawing) (e : Edge) (p : Point) (id id' : ℕ) (fs : List Edge) (rows : List RelationRow) (ids : Counters) → IsSplitOf S e p id id' fs rows ids → (t s t' s' : HalfEdge)
     → Turns (half_edges S) t s → StandsFor S e id id' fs t t' → StandsFor S e id id' fs s s' → Turns (flat_map both_ways fs) t' s'
 turns_over S e p id id' fs rows ids h t s t' s' turn a b = record {
@@ -175,7 +139,7 @@ turns_over S e p id id' fs rows ids h t s t' s' turn a b = record {
     after = spread_of (split_with S p fs rows ids) h.more
 
     far : t'.from_node ≡ S.next_ids.node → ⊥
-    far q = none_leaves S S.next_ids.node (lone S h.ordered h.lines) t a.there (a.like.node ∙ q)
+    far q = none_leaves S S.next_ids.node (new_isolated S h.ordered h.lines) t a.there (a.like.node ∙ q)
 
 -- what follows is what followed, by its new name
 pub next_renamed : (S : Drawing) (e : Edge) (p : Point) (id id' : ℕ) (fs : List Edge) (rows : List RelationRow) (ids : Counters) → IsSplitOf S e p id id' fs rows ids → (h t : HalfEdge) → Contains (half_edges S) h
@@ -186,46 +150,10 @@ next_renamed S e p id id' fs rows ids g h t ch stands =
     ap dart_of (turns_next (split_with S p fs rows ids) t k g.more (turns_over S e p id id' fs rows ids g (twin h) (next_of (half_edges S) h) t k turn stands s)) ∙ s.name
 
 -- ---- at the new node
-at_new : (S : Drawing) (e : Edge) (p : Point) (id id' : ℕ) (fs : List Edge) (rows : List RelationRow) (ids : Counters) → IsSplitOf S e p id id' fs rows ids → (k : HalfEdge) → Contains (flat_map both_ways fs) k → k.from_node ≡ S.next_ids.node
-    → (backward_of (first_part e S.next_ids.node p id) ≡ k) ⊎ (forward_of (second_part e S.next_ids.node p id') ≡ k)
-at_new S e p id id' fs rows ids h k ck at =
-    let r = half_of fs k ck in
-    let alone = lone S h.ordered h.lines in
-    let not_end : is_end_of S.next_ids.node e ≡ true → ⊥ = none_ends S S.next_ids.node alone e h.split.there in
-    ⊎_elim
-    (λ (old : Contains S.edges r.edge × (r.edge.edge_id ≡ e.edge_id → ⊥)). absurd (none_leaves S S.next_ids.node alone k (half_there S.edges k r.edge old.0 r.way) at))
-    (λ (part : (first_part e S.next_ids.node p id ≡ r.edge) ⊎ (second_part e S.next_ids.node p id' ≡ r.edge)).
-    ⊎_elim
-    (λ (is : first_part e S.next_ids.node p id ≡ r.edge).
-    ⊎_elim
-    (λ (q : forward_of r.edge ≡ k). absurd (not_end (or_left (e.start_node == S.next_ids.node) (e.end_node == S.next_ids.node) (eq-eqb e.start_node S.next_ids.node (node_of (ap forward_of is ∙ q) ∙ at)))))
-    (λ (q : backward_of r.edge ≡ k). inl (ap backward_of is ∙ q))
-    r.way)
-    (λ (is : second_part e S.next_ids.node p id' ≡ r.edge).
-    ⊎_elim
-    (λ (q : forward_of r.edge ≡ k). inr (ap forward_of is ∙ q))
-    (λ (q : backward_of r.edge ≡ k). absurd (not_end (or_right (e.start_node == S.next_ids.node) (e.end_node == S.next_ids.node) (eq-eqb e.end_node S.next_ids.node (node_of (ap backward_of is ∙ q) ∙ at)))))
-    r.way)
-    part)
-    (h.split.from r.edge r.there)
-
--- one of two turns to the other
-two_turn : (hs : List HalfEdge) (t s : HalfEdge) → Contains hs t → Contains hs s → s.from_node ≡ t.from_node → (s ≡ t → ⊥) → ((k : HalfEdge) → Contains hs k → k.from_node ≡ t.from_node → (t ≡ k) ⊎ (s ≡ k)) → Turns hs t s
-two_turn hs t s ct cs one differ two = record {
-  first = ct;
-  second = cs;
-  one_node = one;
-  none_between = λ k ck from other.
-      ⊎_elim
-      (λ (q : t ≡ k). absurd (other (sym q)))
-      (λ (q : s ≡ k). subst (λ (z : HalfEdge). is_nearer (leaving t) (leaving z) (leaving s) ≡ false) q (nearer_self (leaving t) (leaving s)))
-      (two k ck from);
-  alone = λ q k ck from. absurd (differ q);
-}
-
-swapped : {A B : Type 0} → A ⊎ B → B ⊎ A
-swapped (inl a) = inr a
-swapped (inr b) = inl b
+two_there : (S : Drawing) (e : Edge) (p : Point) (id id' : ℕ) (fs : List Edge) (rows : List RelationRow) (ids : Counters) → IsSplitOf S e p id id' fs rows ids → (k : HalfEdge) → Contains (flat_map both_ways fs) k → k.from_node ≡ S.next_ids.node
+    → (k ≡ backward_of (first_part e S.next_ids.node p id)) ⊎ (k ≡ forward_of (second_part e S.next_ids.node p id'))
+two_there S e p id id' fs rows ids h k ck at =
+    ⊎_elim (λ (q : backward_of (first_part e S.next_ids.node p id) ≡ k). inl (sym q)) (λ (q : forward_of (second_part e S.next_ids.node p id') ≡ k). inr (sym q)) (at_new S e p id id' fs h.ordered h.lines h.split k ck at)
 
 -- the second part follows the first
 pub first_goes_on : (S : Drawing) (e : Edge) (p : Point) (id id' : ℕ) (fs : List Edge) (rows : List RelationRow) (ids : Counters) → IsSplitOf S e p id id' fs rows ids
@@ -233,8 +161,8 @@ pub first_goes_on : (S : Drawing) (e : Edge) (p : Point) (id id' : ℕ) (fs : Li
 first_goes_on S e p id id' fs rows ids h =
     let one = first_part e S.next_ids.node p id in
     let two = second_part e S.next_ids.node p id' in
-    let turn = two_turn (flat_map both_ways fs) (backward_of one) (forward_of two) (backward_there fs one h.split.first) (forward_there fs two h.split.second) refl
-    (λ q. false≢true (sym (ap (λ (z : HalfEdge). z.is_forward) q))) (λ k ck from. at_new S e p id id' fs rows ids h k ck from) in
+    let turn = pair_turns (flat_map both_ways fs) (backward_of one) (forward_of two) S.next_ids.node (backward_there fs one h.split.first) (forward_there fs two h.split.second) refl refl
+    (λ q. false≢true (sym (ap (λ (z : HalfEdge). z.is_forward) q))) (two_there S e p id id' fs rows ids h) in
     ap (λ (z : HalfEdge). dart_of (next_of (flat_map both_ways fs) z)) (twin_back one)
     ∙ ap dart_of (turns_next (split_with S p fs rows ids) (backward_of one) (forward_of two) h.more turn)
 
@@ -244,8 +172,9 @@ pub second_goes_back : (S : Drawing) (e : Edge) (p : Point) (id id' : ℕ) (fs :
 second_goes_back S e p id id' fs rows ids h =
     let one = first_part e S.next_ids.node p id in
     let two = second_part e S.next_ids.node p id' in
-    let turn = two_turn (flat_map both_ways fs) (forward_of two) (backward_of one) (forward_there fs two h.split.second) (backward_there fs one h.split.first) refl
-    (λ q. false≢true (ap (λ (z : HalfEdge). z.is_forward) q)) (λ k ck from. swapped (at_new S e p id id' fs rows ids h k ck from)) in
+    let turn = pair_turns (flat_map both_ways fs) (forward_of two) (backward_of one) S.next_ids.node (forward_there fs two h.split.second) (backward_there fs one h.split.first) refl refl
+    (λ q. false≢true (ap (λ (z : HalfEdge). z.is_forward) q))
+    (λ k ck at. ⊎_elim (λ (q : k ≡ backward_of one). inr q) (λ (q : k ≡ forward_of two). inl q) (two_there S e p id id' fs rows ids h k ck at)) in
     ap dart_of (turns_next (split_with S p fs rows ids) (forward_of two) (backward_of one) h.more turn)
 
 -- ---- the links

@@ -112,7 +112,7 @@ backward_there (d ∷ edges) e c =
     (contains_cases e d edges c)
 
 -- walked back, it is a half-edge too
-twin_back : (e : Edge) → forward_of e ≡ twin (backward_of e)
+pub twin_back : (e : Edge) → forward_of e ≡ twin (backward_of e)
 twin_back e = λ i. record { edge_id = e.edge_id; is_forward = true; from_node = e.start_node; to_node = e.end_node; on_left = e.left_face; on_right = e.right_face; points = sym (reverse-reverse e.geom) i }
 
 pub twin_there : (edges : List Edge) (h : HalfEdge) → Contains (flat_map both_ways edges) h → Contains (flat_map both_ways edges) (twin h)

@@ -104,7 +104,7 @@ one_of S n e f id fs s h = record {
     good : HasPlainLines S
     good = has_plain_lines S s.covered.ringed.rings
 
-    j : Joint S n e f (joined_edge n e f id)
+    j : Joint S n e f id (joined_edge n e f id)
     j = make_joint S n e f id fs good h
 
     sides : (j.up.on_left ≡ j.on.on_left) × (j.on.on_right ≡ j.up.on_right)
@@ -117,7 +117,7 @@ one_of S n e f id fs s h = record {
     on_there = first_there S.edges f j.on (twin j.on) h.f_there j.of_f
 
     both : IsAlong j.start j.up j.on
-    both = joint_along S n e f (joined_edge n e f id) j (line_of S j.up good (half_of S.edges j.up up_there)).long (line_of S j.on good (half_of S.edges j.on on_there)).long
+    both = joint_along S n e f id (joined_edge n e f id) j (line_of S j.up good (half_of S.edges j.up up_there)).long (line_of S j.on good (half_of S.edges j.on on_there)).long
 
 -- ---- the drawing after it
 abbrev healed : Drawing → ℕ → Edge → Edge → ℕ → List Edge → Counters → Drawing

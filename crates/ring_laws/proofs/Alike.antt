@@ -118,12 +118,12 @@ near_alike r r' u u' v v' a b c =
 own_way : (u : Direction) → IsNotZero u → same_direction u u ≡ true
 own_way u some = same_in u u (nearer_total u u u some some some (nearer_self u u) (nearer_self u u))
 
-like_one : (u v w : Direction) → IsNotZero u → IsNotZero v → Alike u w → Alike v w → OneDirection u v
+pub like_one : (u v w : Direction) → IsNotZero u → IsNotZero v → Alike u w → Alike v w → OneDirection u v
 like_one u v w some other a b =
     let e : quarter u v ≡ quarter u u = a.1 v ∙ b.0 w ∙ sym (a.1 u ∙ a.0 w) in
     same_out u v some other (ap (λ q. q == 0) e ∙ own_way u some)
 
-turned_like : (u v : Direction) → Alike u v → Alike v u
+pub turned_like : (u v : Direction) → Alike u v → Alike v u
 turned_like u v a = (λ r. sym (a.0 r), λ r. sym (a.1 r))
 
 -- ---- half-edges that stand for others
@@ -136,10 +136,10 @@ pub record IsLike (h k : HalfEdge) : Type 0 where
 pub like_self : (h : HalfEdge) → IsLike h h
 like_self h = record { node = refl; way = alike_same (leaving h) (leaving h) refl; left = refl; right = refl }
 
-one_like : (hs : List HalfEdge) (h g k : HalfEdge) → AreSpread hs → Contains hs h → Contains hs g → IsLike h k → IsLike g k → h ≡ g
+pub one_like : (hs : List HalfEdge) (h g k : HalfEdge) → AreSpread hs → Contains hs h → Contains hs g → IsLike h k → IsLike g k → h ≡ g
 one_like hs h g k a ch cg l m = a.differ h g ch cg (l.node ∙ sym m.node) (like_one (leaving h) (leaving g) (leaving k) (a.some h ch) (a.some g cg) l.way m.way)
 
-other_like : (ks : List HalfEdge) (h k m : HalfEdge) → AreSpread ks → Contains ks k → Contains ks m → IsLike h k → IsLike h m → k ≡ m
+pub other_like : (ks : List HalfEdge) (h k m : HalfEdge) → AreSpread ks → Contains ks k → Contains ks m → IsLike h k → IsLike h m → k ≡ m
 other_like ks h k m a ck cm l n =
     a.differ k m ck cm (sym l.node ∙ n.node) (like_one (leaving k) (leaving m) (leaving h) (a.some k ck) (a.some m cm) (turned_like (leaving h) (leaving k) l.way) (turned_like (leaving h) (leaving m) n.way))
 

@@ -21,7 +21,7 @@ use Rattle.ring_laws.proofs.KnownStays.{end_is}
 use Rattle.ring_laws.proofs.SplitSides.{half_there}
 use Rattle.ring_laws.proofs.Turning.{AreJoined, spread_of}
 use Rattle.ring_laws.proofs.WithoutEdge.{leaves_end}
-use Rattle.ring_laws.proofs.Joint.{IsHealed, AreBoth, both_cases, first_there, second_there, Joint, make_joint, edge_cases, away_ends, pair_turns}
+use Rattle.ring_laws.proofs.Joint.{IsHealed, AreBoth, both_cases, first_there, second_there, Joint, make_joint, edge_cases, away_ends, joint_sides}
 
 -- ---- the half-edges of an edge, and its ends
 end_of_both : (x : Edge) (h k : HalfEdge) (m : ℕ) → AreBoth x h k → is_end_of m x ≡ true → (h.from_node ≡ m) ⊎ (k.from_node ≡ m)
@@ -56,58 +56,23 @@ pub healed_joined : (S : Drawing) (n : ℕ) (e f : Edge) (id : ℕ) (fs : List E
 healed_joined S n e f id fs rows ids good h more joined t s turns =
     joined_like (half_edges S) (flat_map both_ways fs) n (spread_of S good) (spread_of (healed_with S n fs rows ids) more) (record { found = found; back = back }) joined t s turns (not_there t turns.first)
   where
-    j : Joint S n e f (joined_edge n e f id)
+    j : Joint S n e f id (joined_edge n e f id)
     j = make_joint S n e f id fs good h
 
     up_there : Contains (half_edges S) j.up
     up_there = first_there S.edges e j.up (twin j.up) h.e_there j.of_e
 
-    up_back : Contains (half_edges S) (twin j.up)
-    up_back = second_there S.edges e j.up (twin j.up) h.e_there j.of_e
-
-    on_there : Contains (half_edges S) j.on
-    on_there = first_there S.edges f j.on (twin j.on) h.f_there j.of_f
-
     on_back : Contains (half_edges S) (twin j.on)
     on_back = second_there S.edges f j.on (twin j.on) h.f_there j.of_f
 
-    id_of : (x : Edge) (k m : HalfEdge) → AreBoth x k m → x.edge_id ≡ k.edge_id
-    id_of x k m (inl b) = ap (λ (z : HalfEdge). z.edge_id) b.0
-    id_of x k m (inr b) = ap (λ (z : HalfEdge). z.edge_id) b.0
-
-    two_edges : j.on ≡ twin j.up → ⊥
-    two_edges p = h.differ (id_of e j.up (twin j.up) j.of_e ∙ ap (λ (z : HalfEdge). z.edge_id) (sym p) ∙ sym (id_of f j.on (twin j.on) j.of_f))
-
-    -- those that leave the node
-    at_node : (k : HalfEdge) → Contains (half_edges S) k → k.from_node ≡ n → (k ≡ twin j.up) ⊎ (k ≡ j.on)
-    at_node k c at =
-        let r = half_of S.edges k c in
-        ⊎_elim
-        (λ (p : r.edge ≡ e). ⊎_elim
-        (λ (q : j.up ≡ k). absurd (away_ends e j.up j.of_e h.e_open (ap (λ (z : HalfEdge). z.from_node) q ∙ at ∙ sym j.up_to)))
-        (λ (q : twin j.up ≡ k). inl (sym q))
-        (both_cases e j.up (twin j.up) k j.of_e (subst (λ (x : Edge). (forward_of x ≡ k) ⊎ (backward_of x ≡ k)) p r.way)))
-        (λ (o : (r.edge ≡ f) ⊎ ((r.edge.edge_id ≡ e.edge_id → ⊥) × (r.edge.edge_id ≡ f.edge_id → ⊥))).
-        ⊎_elim
-        (λ (p : r.edge ≡ f). ⊎_elim
-        (λ (q : j.on ≡ k). inr (sym q))
-        (λ (q : twin j.on ≡ k). absurd (away_ends f j.on j.of_f h.f_open (j.on_from ∙ sym at ∙ ap (λ (z : HalfEdge). z.from_node) (sym q))))
-        (both_cases f j.on (twin j.on) k j.of_f (subst (λ (x : Edge). (forward_of x ≡ k) ⊎ (backward_of x ≡ k)) p r.way)))
-        (λ (p : (r.edge.edge_id ≡ e.edge_id → ⊥) × (r.edge.edge_id ≡ f.edge_id → ⊥)). absurd (h.only r.edge r.there p.0 p.1 (subst (λ m. is_end_of m r.edge ≡ true) at (leaves_end S.edges k r))))
-        o)
-        (edge_cases S n e f id fs r.edge good h r.there)
-
-    lefts : j.up.on_left ≡ j.on.on_left
-    lefts = joined (twin j.up) j.on (pair_turns (half_edges S) (twin j.up) j.on n up_back on_there j.up_to j.on_from two_edges at_node)
-
-    rights : j.on.on_right ≡ j.up.on_right
-    rights = joined j.on (twin j.up) (pair_turns (half_edges S) j.on (twin j.up) n on_there up_back j.on_from j.up_to (λ p. two_edges (sym p)) (λ k c at. ⊎_elim (λ (p : k ≡ twin j.up). inr p) (λ (p : k ≡ j.on). inl p) (at_node k c at)))
+    sides : (j.up.on_left ≡ j.on.on_left) × (j.on.on_right ≡ j.up.on_right)
+    sides = joint_sides S n e f id fs good joined h j
 
     start_like : IsLike j.up j.start
     start_like = record { node = j.start_node; way = alike_same (leaving j.up) (leaving j.start) j.start_way; left = j.start_left; right = j.start_right }
 
     end_like : IsLike (twin j.on) j.end
-    end_like = record { node = j.end_node; way = alike_same (leaving (twin j.on)) (leaving j.end) j.end_way; left = rights ∙ j.end_left; right = sym lefts ∙ j.end_right }
+    end_like = record { node = j.end_node; way = alike_same (leaving (twin j.on)) (leaving j.end) j.end_way; left = sides.1 ∙ j.end_left; right = sym sides.0 ∙ j.end_right }
 
     found : (k : HalfEdge) → Contains (flat_map both_ways fs) k → (k.from_node ≡ n → ⊥) → (g : HalfEdge) × (Contains (half_edges S) g × IsLike g k)
     found k ck far =
@@ -175,7 +140,7 @@ healed_known S n e f id fs rows ids good h known = record {
       (as_before m.node_id (λ p. false≢true (sym (not-true (m.node_id == n) r.1) ∙ eq-eqb m.node_id n p))) (λ g t. t) (known.nodes m r.0);
 }
   where
-    j : Joint S n e f (joined_edge n e f id)
+    j : Joint S n e f id (joined_edge n e f id)
     j = make_joint S n e f id fs good h
 
     in_joined : (m : ℕ) → (m ≡ n → ⊥) → (j.up.from_node ≡ m) ⊎ (j.on.to_node ≡ m) → is_end_of m (joined_edge n e f id) ≡ true

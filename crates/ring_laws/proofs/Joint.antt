@@ -1,5 +1,5 @@
 -- Two edges that meet at a node with no other one: their half-edges up to it and from it on, the joined edge along both, and faces that agree.
-use Rattle.std.proofs.Common.{◌≡◌, ℕ, ◌≤◌, refl, sym, ◌∙◌, ap, subst, arith, ◌⊎◌, inl, inr, ⊎_elim, Bool, true, false, cond, List, [], ◌∷◌, ◌++◌, length}
+use Rattle.std.proofs.Common.{◌≡◌, ℕ, ◌≤◌, refl, sym, ◌∙◌, ap, subst, arith, ◌⊎◌, inl, inr, ⊎_elim, Bool, true, false, not, cond, List, [], ◌∷◌, ◌++◌, length}
 use Rattle.std.specs.Prelude.{reverse, flat_map, ◌==◌}
 use Rattle.std.specs.List.{Contains}
 use Rattle.std.proofs.lemmas.Bool.{eqb-true, eq-eqb, false≢true}
@@ -7,14 +7,14 @@ use Rattle.std.proofs.lemmas.List.{length-append, length-reverse, reverse-revers
 use Rattle.topo_base.specs.Point.{Point}
 use Rattle.plane.specs.Direction.{first_direction, is_nearer}
 use Rattle.drawing.specs.Drawing.{Drawing, Edge, is_end_of}
-use Rattle.drawing.specs.HalfEdge.{HalfEdge, forward_of, backward_of, both_ways, half_edges, twin}
+use Rattle.drawing.specs.HalfEdge.{HalfEdge, forward_of, backward_of, both_ways, dart_of, half_edges, twin}
 use Rattle.drawing.specs.HealEdges.{away_from, joined_edge}
 use Rattle.plane.specs.Line.{first_vertex, last_vertex, without_first, joined}
 use Rattle.drawing.specs.Star.{leaving}
 use Rattle.plane.proofs.Directions.{nearer_self}
 use Rattle.plane.proofs.LineTurns.{last-reverse}
 use Rattle.face_rings.proofs.HalfLines.{HasPlainLines}
-use Rattle.face_rings.proofs.HalvesApart.{half_of, forward_there, backward_there, line_of, one_edge, one_start}
+use Rattle.face_rings.proofs.HalvesApart.{half_of, forward_there, backward_there, line_of, one_edge, one_start, twin_back}
 use Rattle.face_rings.proofs.Ranks.{by_bool}
 use Rattle.ring_laws.proofs.KnownStays.{end_is}
 use Rattle.ring_laws.proofs.SplitSides.{first_of_some, from_end}
@@ -76,6 +76,10 @@ both_cases x h k m (inl b) (inr p) = inr (sym b.1 ∙ p)
 both_cases x h k m (inr b) (inl p) = inr (sym b.1 ∙ p)
 both_cases x h k m (inr b) (inr p) = inl (sym b.0 ∙ p)
 
+pub id_of : (x : Edge) (k m : HalfEdge) → AreBoth x k m → x.edge_id ≡ k.edge_id
+id_of x k m (inl b) = ap (λ (z : HalfEdge). z.edge_id) b.0
+id_of x k m (inr b) = ap (λ (z : HalfEdge). z.edge_id) b.0
+
 pub first_there : (edges : List Edge) (x : Edge) (h k : HalfEdge) → Contains edges x → AreBoth x h k → Contains (flat_map both_ways edges) h
 first_there edges x h k c (inl b) = subst (Contains (flat_map both_ways edges)) b.0 (forward_there edges x c)
 first_there edges x h k c (inr b) = subst (Contains (flat_map both_ways edges)) b.0 (backward_there edges x c)
@@ -85,7 +89,7 @@ second_there edges x h k c (inl b) = subst (Contains (flat_map both_ways edges))
 second_there edges x h k c (inr b) = subst (Contains (flat_map both_ways edges)) b.1 (forward_there edges x c)
 
 -- the half-edge up to the node and the one from it on, and the two half-edges of the joined edge
-pub record Joint (S : Drawing) (n : ℕ) (e f : Edge) (J : Edge) : Type 0 where
+pub record Joint (S : Drawing) (n : ℕ) (e f : Edge) (id : ℕ) (J : Edge) : Type 0 where
   pub up : HalfEdge
   pub on : HalfEdge
   pub start : HalfEdge
@@ -105,9 +109,14 @@ pub record Joint (S : Drawing) (n : ℕ) (e f : Edge) (J : Edge) : Type 0 where
   pub end_way : leaving (twin on) ≡ leaving end
   pub end_left : up.on_right ≡ end.on_left
   pub end_right : up.on_left ≡ end.on_right
-
-twin_back : (e : Edge) → forward_of e ≡ twin (backward_of e)
-twin_back e = λ i. record { edge_id = e.edge_id; is_forward = true; from_node = e.start_node; to_node = e.end_node; on_left = e.left_face; on_right = e.right_face; points = sym (reverse-reverse e.geom) i }
+  pub start_dart : dart_of start ≡ record { edge = id; forward = n == e.end_node }
+  pub end_dart : dart_of end ≡ record { edge = id; forward = not (n == e.end_node) }
+  pub end_twin : end ≡ twin start
+  pub start_twin : start ≡ twin end
+  pub up_way : up.is_forward ≡ (n == e.end_node)
+  pub on_is : on ≡ away_from n f
+  pub at_end : n == e.end_node ≡ true → last_vertex e.geom ≡ first_vertex ((away_from n f).points)
+  pub at_start : n == e.end_node ≡ false → last_vertex (reverse ((away_from n f).points)) ≡ first_vertex e.geom
 
 -- the half-edge that leaves the node
 record IsAway (n : ℕ) (f : Edge) (h : HalfEdge) : Type 0 where
@@ -122,14 +131,14 @@ away_is n f t = by_test (f.start_node == n) refl (end_is n f t)
     by_test false e (inl p) = absurd (false≢true (sym e ∙ eq-eqb f.start_node n p))
     by_test false e (inr p) = record { from = p; both = inr (refl, twin_back f) }
 
-pub make_joint : (S : Drawing) (n : ℕ) (e f : Edge) (id : ℕ) (fs : List Edge) → HasPlainLines S → IsHealed S n e f id fs → Joint S n e f (joined_edge n e f id)
+pub make_joint : (S : Drawing) (n : ℕ) (e f : Edge) (id : ℕ) (fs : List Edge) → HasPlainLines S → IsHealed S n e f id fs → Joint S n e f id (joined_edge n e f id)
 make_joint S n e f id fs good h = by_end (n == e.end_node) refl
   where
     on : HalfEdge
     on = away_from n f
 
     by_end : (t : Bool) → (n == e.end_node) ≡ t
-        → Joint S n e f (cond t (record e { edge_id = id; end_node = (away_from n f).to_node; geom = joined e.geom ((away_from n f).points) }) (record e { edge_id = id; start_node = (away_from n f).to_node; geom = joined (reverse ((away_from n f).points)) e.geom }))
+        → Joint S n e f id (cond t (record e { edge_id = id; end_node = (away_from n f).to_node; geom = joined e.geom ((away_from n f).points) }) (record e { edge_id = id; start_node = (away_from n f).to_node; geom = joined (reverse ((away_from n f).points)) e.geom }))
     by_end true t =
         let away = away_is n f h.at_f in
         let there = first_there S.edges f (away_from n f) (twin (away_from n f)) h.f_there away.both in
@@ -159,6 +168,14 @@ make_joint S n e f id fs good h = by_end (n == e.end_node) refl
           end_way = sym (end_of_joined e.geom ((away_from n f).points) long line.long meets);
           end_left = refl;
           end_right = refl;
+          start_dart = λ i. record { edge = id; forward = sym t i };
+          end_dart = λ i. record { edge = id; forward = not (sym t i) };
+          end_twin = refl;
+          start_twin = twin_back J;
+          up_way = sym t;
+          on_is = refl;
+          at_end = λ _. meets;
+          at_start = λ k. absurd (false≢true (sym k ∙ t));
         }
     by_end false t =
         let away = away_is n f h.at_f in
@@ -190,6 +207,14 @@ make_joint S n e f id fs good h = by_end (n == e.end_node) refl
           end_way = sym (first_of_some (reverse ((away_from n f).points)) (without_first e.geom) turned);
           end_left = refl;
           end_right = refl;
+          start_dart = λ i. record { edge = id; forward = sym t i };
+          end_dart = λ i. record { edge = id; forward = not (sym t i) };
+          end_twin = twin_back J;
+          start_twin = refl;
+          up_way = sym t;
+          on_is = refl;
+          at_end = λ k. absurd (false≢true (sym t ∙ k));
+          at_start = λ _. last-reverse ((away_from n f).points) ∙ meets;
         }
 
 -- an edge is e, or f, or another
@@ -209,7 +234,7 @@ away_ends x h (inl b) far e = far (ap (λ (z : HalfEdge). z.from_node) b.0 ∙ e
 away_ends x h (inr b) far e = far (ap (λ (z : HalfEdge). z.to_node) b.0 ∙ sym e ∙ ap (λ (z : HalfEdge). z.from_node) (sym b.0))
 
 -- ---- the faces beside the two edges agree
-pub joint_sides : (S : Drawing) (n : ℕ) (e f : Edge) (id : ℕ) (fs : List Edge) → HasPlainLines S → AreJoined (half_edges S) → IsHealed S n e f id fs → (j : Joint S n e f (joined_edge n e f id))
+pub joint_sides : (S : Drawing) (n : ℕ) (e f : Edge) (id : ℕ) (fs : List Edge) → HasPlainLines S → AreJoined (half_edges S) → IsHealed S n e f id fs → (j : Joint S n e f id (joined_edge n e f id))
     → (j.up.on_left ≡ j.on.on_left) × (j.on.on_right ≡ j.up.on_right)
 joint_sides S n e f id fs good joined h j = (
   joined (twin j.up) j.on (pair_turns (half_edges S) (twin j.up) j.on n up_back on_there j.up_to j.on_from two_edges at_node),
@@ -221,10 +246,6 @@ joint_sides S n e f id fs good joined h j = (
 
     on_there : Contains (half_edges S) j.on
     on_there = first_there S.edges f j.on (twin j.on) h.f_there j.of_f
-
-    id_of : (x : Edge) (k m : HalfEdge) → AreBoth x k m → x.edge_id ≡ k.edge_id
-    id_of x k m (inl b) = ap (λ (z : HalfEdge). z.edge_id) b.0
-    id_of x k m (inr b) = ap (λ (z : HalfEdge). z.edge_id) b.0
 
     two_edges : j.on ≡ twin j.up → ⊥
     two_edges p = h.differ (id_of e j.up (twin j.up) j.of_e ∙ ap (λ (z : HalfEdge). z.edge_id) (sym p) ∙ sym (id_of f j.on (twin j.on) j.of_f))

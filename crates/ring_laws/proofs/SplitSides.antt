@@ -99,8 +99,15 @@ pub record IsSplitInto (S : Drawing) (e : Edge) (p : Point) (id id' : ℕ) (fs :
   pub not_first : SameCoordinates p (first_vertex e.geom) → ⊥
   pub not_last : SameCoordinates p (last_vertex e.geom) → ⊥
 
-node_of : {h k : HalfEdge} → h ≡ k → h.from_node ≡ k.from_node
+pub node_of : {h k : HalfEdge} → h ≡ k → h.from_node ≡ k.from_node
 node_of e = ap (λ (x : HalfEdge). x.from_node) e
+
+-- the parts leave the ends as e does
+pub first_like : (S : Drawing) (e : Edge) (p : Point) (id id' : ℕ) (fs : List Edge) → IsSplitInto S e p id id' fs → IsLike (forward_of e) (forward_of (first_part e S.next_ids.node p id))
+first_like S e p id id' fs split = record { node = refl; way = first_way p e.geom split.on split.not_first; left = refl; right = refl }
+
+pub second_like : (S : Drawing) (e : Edge) (p : Point) (id id' : ℕ) (fs : List Edge) → IsSplitInto S e p id id' fs → IsLike (backward_of e) (backward_of (second_part e S.next_ids.node p id'))
+second_like S e p id id' fs split = record { node = refl; way = second_way p e.geom split.on split.not_last; left = refl; right = refl }
 
 parts_correspond : (S : Drawing) (e : Edge) (p : Point) (id id' : ℕ) (fs : List Edge) → HasPlainLines S → IsSplitInto S e p id id' fs → Correspond (half_edges S) (flat_map both_ways fs) S.next_ids.node
 parts_correspond S e p id id' fs good split = record { found = found; back = back }
@@ -115,16 +122,14 @@ parts_correspond S e p id id' fs good split = record { found = found; back = bac
         (λ (is : first_part e S.next_ids.node p id ≡ r.edge).
         ⊎_elim
         (λ (q : forward_of r.edge ≡ k).
-        let like : IsLike (forward_of e) (forward_of (first_part e S.next_ids.node p id)) = record { node = refl; way = first_way p e.geom split.on split.not_first; left = refl; right = refl } in
-        (forward_of e, (forward_there S.edges e split.there, subst (IsLike (forward_of e)) (ap forward_of is ∙ q) like)))
+        (forward_of e, (forward_there S.edges e split.there, subst (IsLike (forward_of e)) (ap forward_of is ∙ q) (first_like S e p id id' fs split))))
         (λ (q : backward_of r.edge ≡ k). absurd (far (sym (node_of (ap backward_of is ∙ q)))))
         r.way)
         (λ (is : second_part e S.next_ids.node p id' ≡ r.edge).
         ⊎_elim
         (λ (q : forward_of r.edge ≡ k). absurd (far (sym (node_of (ap forward_of is ∙ q)))))
         (λ (q : backward_of r.edge ≡ k).
-        let like : IsLike (backward_of e) (backward_of (second_part e S.next_ids.node p id')) = record { node = refl; way = second_way p e.geom split.on split.not_last; left = refl; right = refl } in
-        (backward_of e, (backward_there S.edges e split.there, subst (IsLike (backward_of e)) (ap backward_of is ∙ q) like)))
+        (backward_of e, (backward_there S.edges e split.there, subst (IsLike (backward_of e)) (ap backward_of is ∙ q) (second_like S e p id id' fs split))))
         r.way)
         part)
         (split.from r.edge r.there)
@@ -137,17 +142,38 @@ parts_correspond S e p id id' fs good split = record { found = found; back = bac
         let is = one_edge S r.edge e good r.there split.there (eqb-true r.edge.edge_id e.edge_id t) in
         ⊎_elim
         (λ (q : forward_of r.edge ≡ h).
-        let like : IsLike (forward_of e) (forward_of (first_part e S.next_ids.node p id)) = record { node = refl; way = first_way p e.geom split.on split.not_first; left = refl; right = refl } in
-        (forward_of (first_part e S.next_ids.node p id), (forward_there fs (first_part e S.next_ids.node p id) split.first, subst (λ (x : HalfEdge). IsLike x (forward_of (first_part e S.next_ids.node p id))) (ap forward_of (sym is) ∙ q) like)))
+        (forward_of (first_part e S.next_ids.node p id), (forward_there fs (first_part e S.next_ids.node p id) split.first, subst (λ (x : HalfEdge). IsLike x (forward_of (first_part e S.next_ids.node p id))) (ap forward_of (sym is) ∙ q) (first_like S e p id id' fs split))))
         (λ (q : backward_of r.edge ≡ h).
-        let like : IsLike (backward_of e) (backward_of (second_part e S.next_ids.node p id')) = record { node = refl; way = second_way p e.geom split.on split.not_last; left = refl; right = refl } in
-        (backward_of (second_part e S.next_ids.node p id'), (backward_there fs (second_part e S.next_ids.node p id') split.second, subst (λ (x : HalfEdge). IsLike x (backward_of (second_part e S.next_ids.node p id'))) (ap backward_of (sym is) ∙ q) like)))
+        (backward_of (second_part e S.next_ids.node p id'), (backward_there fs (second_part e S.next_ids.node p id') split.second, subst (λ (x : HalfEdge). IsLike x (backward_of (second_part e S.next_ids.node p id'))) (ap backward_of (sym is) ∙ q) (second_like S e p id id' fs split))))
         r.way)
         (λ (t : (r.edge.edge_id == e.edge_id) ≡ false).
         (h, (half_there fs h r.edge (split.old r.edge r.there (λ q. false≢true (sym t ∙ eq-eqb r.edge.edge_id e.edge_id q))) r.way, like_self h)))
         (by_bool (r.edge.edge_id == e.edge_id))
 
 -- ---- the rings
+-- from the new node leave the first part walked back, and the second
+pub at_new : (S : Drawing) (e : Edge) (p : Point) (id id' : ℕ) (fs : List Edge) → IsPlainInOrder S → HasPlainLines S → IsSplitInto S e p id id' fs → (k : HalfEdge) → Contains (flat_map both_ways fs) k → k.from_node ≡ S.next_ids.node → (backward_of (first_part e S.next_ids.node p id) ≡ k) ⊎ (forward_of (second_part e S.next_ids.node p id') ≡ k)
+at_new S e p id id' fs ordered good split k ck at =
+    let r = half_of fs k ck in
+    let lone = new_isolated S ordered good in
+    let not_end : is_end_of S.next_ids.node e ≡ true → ⊥ = none_ends S S.next_ids.node lone e split.there in
+    ⊎_elim
+    (λ (old : Contains S.edges r.edge × (r.edge.edge_id ≡ e.edge_id → ⊥)). absurd (none_leaves S S.next_ids.node lone k (half_there S.edges k r.edge old.0 r.way) at))
+    (λ (part : (first_part e S.next_ids.node p id ≡ r.edge) ⊎ (second_part e S.next_ids.node p id' ≡ r.edge)).
+    ⊎_elim
+    (λ (is : first_part e S.next_ids.node p id ≡ r.edge).
+    ⊎_elim
+    (λ (q : forward_of r.edge ≡ k). absurd (not_end (or_left (e.start_node == S.next_ids.node) (e.end_node == S.next_ids.node) (eq-eqb e.start_node S.next_ids.node (node_of (ap forward_of is ∙ q) ∙ at)))))
+    (λ (q : backward_of r.edge ≡ k). inl (ap backward_of is ∙ q))
+    r.way)
+    (λ (is : second_part e S.next_ids.node p id' ≡ r.edge).
+    ⊎_elim
+    (λ (q : forward_of r.edge ≡ k). inr (ap forward_of is ∙ q))
+    (λ (q : backward_of r.edge ≡ k). absurd (not_end (or_right (e.start_node == S.next_ids.node) (e.end_node == S.next_ids.node) (eq-eqb e.end_node S.next_ids.node (node_of (ap backward_of is ∙ q) ∙ at)))))
+    r.way)
+    part)
+    (split.from r.edge r.there)
+
 abbrev pub split_with : Drawing → Point → List Edge → List RelationRow → Counters → Drawing
 split_with S p fs rows ids = record S { nodes = S.nodes ++ new_node S.next_ids.node p ∷ []; edges = fs; relations = rows; next_ids = ids }
 
@@ -155,37 +181,10 @@ pub split_joined : (S : Drawing) (e : Edge) (p : Point) (id id' : ℕ) (fs : Lis
     → AreJoined (half_edges S) → AreJoined (flat_map both_ways fs)
 split_joined S e p id id' fs rows ids ordered good split more joined t s h =
     ⊎_elim
-    (λ (at : t.from_node ≡ S.next_ids.node). here (at_new t h.first at) (at_new s h.second (h.one_node ∙ at)))
+    (λ (at : t.from_node ≡ S.next_ids.node). here (at_new S e p id id' fs ordered good split t h.first at) (at_new S e p id id' fs ordered good split s h.second (h.one_node ∙ at)))
     (λ (far : t.from_node ≡ S.next_ids.node → ⊥). joined_like (half_edges S) (flat_map both_ways fs) S.next_ids.node (spread_of S good) (spread_of (split_with S p fs rows ids) more) (parts_correspond S e p id id' fs good split) joined t s h far)
     (cases_eq t.from_node S.next_ids.node)
   where
-    lone : is_isolated S S.next_ids.node ≡ true
-    lone = new_isolated S ordered good
-
-    not_end : is_end_of S.next_ids.node e ≡ true → ⊥
-    not_end = none_ends S S.next_ids.node lone e split.there
-
-    -- the first part walked back, or the second
-    at_new : (k : HalfEdge) → Contains (flat_map both_ways fs) k → k.from_node ≡ S.next_ids.node → (backward_of (first_part e S.next_ids.node p id) ≡ k) ⊎ (forward_of (second_part e S.next_ids.node p id') ≡ k)
-    at_new k ck at =
-        let r = half_of fs k ck in
-        ⊎_elim
-        (λ (old : Contains S.edges r.edge × (r.edge.edge_id ≡ e.edge_id → ⊥)). absurd (none_leaves S S.next_ids.node lone k (half_there S.edges k r.edge old.0 r.way) at))
-        (λ (part : (first_part e S.next_ids.node p id ≡ r.edge) ⊎ (second_part e S.next_ids.node p id' ≡ r.edge)).
-        ⊎_elim
-        (λ (is : first_part e S.next_ids.node p id ≡ r.edge).
-        ⊎_elim
-        (λ (q : forward_of r.edge ≡ k). absurd (not_end (or_left (e.start_node == S.next_ids.node) (e.end_node == S.next_ids.node) (eq-eqb e.start_node S.next_ids.node (node_of (ap forward_of is ∙ q) ∙ at)))))
-        (λ (q : backward_of r.edge ≡ k). inl (ap backward_of is ∙ q))
-        r.way)
-        (λ (is : second_part e S.next_ids.node p id' ≡ r.edge).
-        ⊎_elim
-        (λ (q : forward_of r.edge ≡ k). inr (ap forward_of is ∙ q))
-        (λ (q : backward_of r.edge ≡ k). absurd (not_end (or_right (e.start_node == S.next_ids.node) (e.end_node == S.next_ids.node) (eq-eqb e.end_node S.next_ids.node (node_of (ap backward_of is ∙ q) ∙ at)))))
-        r.way)
-        part)
-        (split.from r.edge r.there)
-
     here : (backward_of (first_part e S.next_ids.node p id) ≡ t) ⊎ (forward_of (second_part e S.next_ids.node p id') ≡ t) → (backward_of (first_part e S.next_ids.node p id) ≡ s) ⊎ (forward_of (second_part e S.next_ids.node p id') ≡ s) → t.on_right ≡ s.on_left
     here (inl x) (inr y) = ap (λ (z : HalfEdge). z.on_right) (sym x) ∙ ap (λ (z : HalfEdge). z.on_left) y
     here (inr x) (inl y) = ap (λ (z : HalfEdge). z.on_right) (sym x) ∙ ap (λ (z : HalfEdge). z.on_left) y

@@ -63,8 +63,8 @@ both_turned x h k (inl b) = inr (b.1, b.0)
 both_turned x h k (inr b) = inl (b.1, b.0)
 
 -- the joined edge lies along both
-pub joint_along : (S : Drawing) (n : ℕ) (e f J : Edge) (j : Joint S n e f J) → 2 ≤ length j.up.points → 2 ≤ length j.on.points → IsAlong j.start j.up j.on
-joint_along S n e f J j h k =
+pub joint_along : (S : Drawing) (n : ℕ) (e f : Edge) (id : ℕ) (J : Edge) (j : Joint S n e f id J) → 2 ≤ length j.up.points → 2 ≤ length j.on.points → IsAlong j.start j.up j.on
+joint_along S n e f id J j h k =
     ⊎_elim
     (λ (is : j.start.points ≡ joined j.up.points j.on.points). along_both j.start j.up j.on h k j.meets is)
     (λ (is : j.end.points ≡ joined (reverse j.on.points) (reverse j.up.points)).
@@ -101,7 +101,7 @@ healed_along S n e f id fs rows ids rings h = (along, back_along)
     good : HasPlainLines S
     good = has_plain_lines S rings
 
-    j : Joint S n e f (joined_edge n e f id)
+    j : Joint S n e f id (joined_edge n e f id)
     j = make_joint S n e f id fs good h
 
     sides : (j.up.on_left ≡ j.on.on_left) × (j.on.on_right ≡ j.up.on_right)
@@ -114,7 +114,7 @@ healed_along S n e f id fs rows ids rings h = (along, back_along)
     on_there = first_there S.edges f j.on (twin j.on) h.f_there j.of_f
 
     both : IsAlong j.start j.up j.on
-    both = joint_along S n e f (joined_edge n e f id) j (line_of S j.up good (half_of S.edges j.up up_there)).long (line_of S j.on good (half_of S.edges j.on on_there)).long
+    both = joint_along S n e f id (joined_edge n e f id) j (line_of S j.up good (half_of S.edges j.up up_there)).long (line_of S j.on good (half_of S.edges j.on on_there)).long
 
     along : LiesAlong S T
     along x c =
