@@ -2,7 +2,7 @@
 use Rattle.std.proofs.Common.{◌≡◌, ℕ, ◌+◌, ◌≤◌, sym, ◌∙◌, ap, subst, arith, ◌⊎◌, inl, inr, Bool, true, false, not, cond, ◌&&◌, ◌||◌, ◌==◌, eqb-true, eq-eqb, ne_eqb, List, [], ◌∷◌, ◌++◌, map, filter, refl, Some, None, Ok, Err}
 use Rattle.std.specs.Prelude.{if◌then◌else◌}
 use Rattle.std.specs.List.{Contains, list_all}
-use Rattle.std.proofs.lemmas.Bool.{and_parts, false≢true}
+use Rattle.std.proofs.lemmas.Bool.{and_parts, not-true}
 use Rattle.topo_base.specs.Point.{Point}
 use Rattle.topo_base.specs.declared.edit.Edit.TheVariants.{ModEdgeSplit, NewEdgesSplit, ModEdgeHeal, NewEdgeHeal}
 use Rattle.topo_base.specs.declared.rule.Rule.TheVariants.{NotOnEdge}
@@ -26,13 +26,14 @@ use Rattle.drawing.proofs.Members.{contains-found}
 use Rattle.drawing.proofs.PlainSplits.{ComesFrom, from_both}
 use Rattle.relation_rows.proofs.KnownFeatures.{references_parts}
 use Rattle.relation_rows.proofs.Putting.{ascend_of}
+use Rattle.relation_rows.proofs.MergedInto.{ordered_is}
 use Rattle.ring_laws.proofs.Known.{all_out}
 use Rattle.grid_lines.proofs.Splitting.{not_first}
 use Rattle.edge_heal.specs.HealLaw.{CanSplit, HealUndoesSplit, healed_again, healed_anew, with_vertex}
 use Rattle.edge_heal.proofs.HealAgainEdges.{HasEdge, edge_below, edges_again, edges_same, first_at, new_first_at, new_parts_go, new_parts_of, new_second_at, next_goes, only_parts, parts_come, parts_joined, parts_of, second_at}
 use Rattle.edge_heal.proofs.HealAgainFeatures.{can_part, end_below, feature_layer, node_unlisted, others_unlisted, same_features}
 use Rattle.edge_heal.proofs.HealAgainLines.{vertex_points, vertex_stays}
-use Rattle.edge_heal.proofs.HealAgainRows.{both_is, both_to, in_order, one_is, one_own, parted_is, parted_to}
+use Rattle.edge_heal.proofs.HealAgainRows.{both_is, both_to, one_is, one_own, parted_is, parted_to}
 
 itself : (n : ℕ) → (n == n) ≡ true
 itself n = eq-eqb n n refl
@@ -89,7 +90,7 @@ rows_follow S e p x y z g parts =
 rows_stay : (S : Drawing) (e : Edge) (p : Point) → Splits S e p → follow S edge_type (e.edge_id ∷ []) (e.edge_id ∷ []) ≡ S.relations
 rows_stay S e p g =
     ap ordered (one_is S edge_type e.edge_id e.edge_id S.relations ∙ one_own S edge_type e.edge_id S.relations)
-    ∙ in_order S.relations (ascend_of S.relations (references_parts S g.referenced.references).ascend)
+    ∙ ordered_is S.relations (ascend_of S.relations (references_parts S g.referenced.references).ascend)
 
 parts_shared : (S : Drawing) (e : Edge) (p : Point) (x y : ℕ) → Splits S e p → AreParts S e.edge_id x y → have_same_features (with_parts S e.edge_id x y) edge_type x y ≡ true
 parts_shared S e p x y g parts =
@@ -105,7 +106,7 @@ node_free S e p x y g = rw none refl
         ∙ others_unlisted S edge_type e.edge_id x y node_type S.next_ids.node S.relations refl (λ r c. node_unlisted S S.next_ids.node r g.referenced (omega arith) c)
 
 -- ---- an accepted heal
-either_done : (anew : Bool) (S : Drawing) (e f : Edge) (n : ℕ) → carried_out S (cond anew (Ok (EdgesAreJoinedAnew e f n)) (Ok (EdgesAreJoined e f n))) ≡ cond anew (heal_new S e f n) (heal_mod S e f n)
+pub either_done : (anew : Bool) (S : Drawing) (e f : Edge) (n : ℕ) → carried_out S (cond anew (Ok (EdgesAreJoinedAnew e f n)) (Ok (EdgesAreJoined e f n))) ≡ cond anew (heal_new S e f n) (heal_mod S e f n)
 either_done true S e f n = refl
 either_done false S e f n = refl
 
@@ -229,14 +230,10 @@ line_proper S id e p g =
     let all = all_out (is_between_nodes S) S.edges e g.referenced.rings.rings.plain.plain.lines_fit (found S id e g.there).0 in
     (and_parts _ _ (and_parts _ _ all).0).0
 
-not_true : (b : Bool) → not b ≡ true → b ≡ false
-not_true true h = absurd (false≢true h)
-not_true false h = refl
-
 line_stays : (S : Drawing) (id : ℕ) (e : Edge) (p : Point) → CanSplit S id e p → Contains e.geom p → with_vertex p e.geom ≡ e.geom
 line_stays S id e p g c =
     let both = and_parts (on_line p e.geom) (not (is_line_end p e.geom)) g.inside in
-    vertex_stays p e.geom (g.referenced.rings.rings.plain.plain.lines_simple e (found S id e g.there).0) both.0 (not_first p e.geom (not_true (is_line_end p e.geom) both.1)) c
+    vertex_stays p e.geom (g.referenced.rings.rings.plain.plain.lines_simple e (found S id e g.there).0) both.0 (not_first p e.geom (not-true (is_line_end p e.geom) both.1)) c
 
 pub heal_undoes_split : HealUndoesSplit
 heal_undoes_split = record {

@@ -15,13 +15,14 @@ use Rattle.drawing.specs.Subdivision.{is_row_known, rows_in_order}
 use Rattle.plane.proofs.ListTests.{contains_here, contains_there}
 use Rattle.drawing.proofs.Members.{ids_within}
 use Rattle.relation_rows.proofs.KnownFeatures.{KnowsReferences, known_row, layer_in, references_parts}
-use Rattle.relation_rows.proofs.Putting.{ascend_of, commutes}
+use Rattle.relation_rows.proofs.Putting.{ascend_of, commutes, put_unlisted}
 use Rattle.ring_laws.proofs.Known.{all_out, any_out}
 use Rattle.reference_laws.proofs.Followed.{each_row}
-use Rattle.reference_laws.proofs.KnownRows.{KnowsRows, has_listed, has_of, lists_primitive, number_in}
+use Rattle.reference_laws.proofs.KnownRows.{HasKnownRows, has_listed, has_of, lists_primitive, number_in}
 use Rattle.reference_laws.specs.Referenced.{IsReferenced}
 use Rattle.relation_rows.proofs.MergedInto.{one_row}
-use Rattle.edge_heal.proofs.HealAgainRows.{CanPart, IsOf, can_rest, features_in, listed_id, listed_type, listed_with, of_parted, parted, parted_rows, put_part, put_unlisted, with_id}
+use Rattle.relation_rows.specs.Features.{features_in}
+use Rattle.edge_heal.proofs.HealAgainRows.{CanPart, IsOf, can_rest, listed_id, listed_type, listed_with, of_parted, parted, parted_rows, put_part, with_id}
 use Rattle.edge_heal.proofs.HealAgainRows.IsOf.{Stays, Part}
 
 -- ---- both parts are listed by the features that list the edge
@@ -90,7 +91,7 @@ others_unlisted S type id x y other n rows differ none = ap (map of_row) (filter
 knows_of : (S : Drawing) → IsReferenced S → KnowsReferences S
 knows_of S g = references_parts S g.references
 
-rows_of : (S : Drawing) → KnowsReferences S → KnowsRows S
+rows_of : (S : Drawing) → KnowsReferences S → HasKnownRows S
 rows_of S k = record { layers = k.layers; names = k.names; features = k.features; relations = k.relations; ascend = k.ascend }
 
 -- what is listed by its number is below the next one

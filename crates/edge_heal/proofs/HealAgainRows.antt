@@ -11,8 +11,9 @@ use Rattle.plane.proofs.ListTests.{contains_cases, contains_here, contains_none,
 use Rattle.relation_rows.specs.KnownRows.{HasLayer}
 use Rattle.relation_rows.proofs.MergedInto.{one_row, put_twice}
 use Rattle.relation_rows.proofs.Order.{before_not_after, same_not_before}
-use Rattle.relation_rows.proofs.Putting.{AllAfter, Ascend, Stand, commutes, put_after, put_at, put_before, put_first, stand}
+use Rattle.relation_rows.proofs.Putting.{AllAfter, Ascend, Stand, commutes, put_after, put_at, put_before, stand}
 use Rattle.relation_rows.proofs.Putting.Stand.{Before, Same, After}
+use Rattle.relation_rows.proofs.Replacing.{follows_test}
 use Rattle.reference_laws.proofs.Followed.{in_ordered, in_put}
 
 -- ---- tests of a row
@@ -26,18 +27,6 @@ itself : (n : ℕ) → (n == n) ≡ true
 itself n = eq-eqb n n refl
 
 -- the row lists an element that is one of these
-one_listed : (S : Drawing) (type id : ℕ) (r : RelationRow) → (lists_element S type r.element_id r && is_among r.element_id (id ∷ [])) ≡ lists_element S type id r
-one_listed S type id r =
-    (λ i. (r.element_type == type && itself r.element_id i && not (is_hierarchical S r.layer_id)) && (eqb_turned id r.element_id i || false))
-    ∙ by (r.element_type == type) (r.element_id == id) (not (is_hierarchical S r.layer_id))
-  where
-    by : (t p h : Bool) → ((t && true && h) && (p || false)) ≡ (t && p && h)
-    by false p h = refl
-    by true true true = refl
-    by true true false = refl
-    by true false true = refl
-    by true false false = refl
-
 two_listed : (S : Drawing) (type x y : ℕ) (r : RelationRow) → (lists_element S type r.element_id r && is_among r.element_id (x ∷ y ∷ [])) ≡ (lists_element S type x r || lists_element S type y r)
 two_listed S type x y r =
     (λ i. (r.element_type == type && itself r.element_id i && not (is_hierarchical S r.layer_id)) && (eqb_turned x r.element_id i || (eqb_turned y r.element_id i || false)))
@@ -98,7 +87,7 @@ both_to S type x y z r = cond (lists_element S type x r || lists_element S type 
 pub parted_is : (S : Drawing) (type id x y : ℕ) (rows : List RelationRow) → flat_map (followed S type (id ∷ []) (x ∷ y ∷ [])) rows ≡ flat_map (parted S type id x y) rows
 parted_is S type id x y [] = refl
 parted_is S type id x y (r ∷ rows) =
-    let first = one_listed S type id r in
+    let first = follows_test S type id r in
     let rest = parted_is S type id x y rows in
     λ i. cond (first i) (with_id x r ∷ with_id y r ∷ []) (r ∷ []) ++ rest i
 
@@ -109,7 +98,7 @@ alone false r s = refl
 pub one_is : (S : Drawing) (type id z : ℕ) (rows : List RelationRow) → flat_map (followed S type (id ∷ []) (z ∷ [])) rows ≡ map (one_to S type id z) rows
 one_is S type id z [] = refl
 one_is S type id z (r ∷ rows) =
-    let first = ap (λ b. cond b (with_id z r ∷ []) (r ∷ [])) (one_listed S type id r) ∙ alone (lists_element S type id r) (with_id z r) r in
+    let first = ap (λ b. cond b (with_id z r ∷ []) (r ∷ [])) (follows_test S type id r) ∙ alone (lists_element S type id r) (with_id z r) r in
     let rest = one_is S type id z rows in
     λ i. first i ++ rest i
 
@@ -260,23 +249,7 @@ one_own S type id (r ∷ rows) = let first = by (lists_element S type id r) refl
     by true h = own_id id r (listed_id S type id r h)
     by false h = refl
 
-pub in_order : (rows : List RelationRow) → Ascend rows → ordered rows ≡ rows
-in_order [] h = refl
-in_order (a ∷ rows) h = ap (insert_row a) (in_order rows h.1) ∙ put_first a rows h.0
-
 -- ---- the features that list a part are those that list the edge
-abbrev pub features_in : Drawing → ℕ → ℕ → List RelationRow → List ℕ
-features_in S type w rows = map (λ (row : RelationRow). row.topogeo_id) (filter (lists_element S type w) rows)
-
-put_unlisted_at : (p : RelationRow → Bool) (a b : RelationRow) (rows : List RelationRow) → p a ≡ false → filter p (insert_row a rows) ≡ filter p rows → Stand a b → filter p (insert_row a (b ∷ rows)) ≡ filter p (b ∷ rows)
-put_unlisted_at p a b rows h ih (Before q) = ap (filter p) (put_before a b rows q) ∙ ap (λ t. cond t (a ∷ filter p (b ∷ rows)) (filter p (b ∷ rows))) h
-put_unlisted_at p a b rows h ih (Same q) = ap (filter p) (put_at a b rows q)
-put_unlisted_at p a b rows h ih (After q) = ap (filter p) (put_after a b rows q) ∙ ap (λ l. cond (p b) (b ∷ l) l) ih
-
-pub put_unlisted : (p : RelationRow → Bool) (a : RelationRow) (rows : List RelationRow) → p a ≡ false → filter p (insert_row a rows) ≡ filter p rows
-put_unlisted p a [] h = ap (λ t. cond t (a ∷ []) []) h
-put_unlisted p a (b ∷ rows) h = put_unlisted_at p a b rows h (put_unlisted p a rows h) (stand a b)
-
 -- where the row stands before each listed one
 put_listed_at : (p : RelationRow → Bool) (a b : RelationRow) (rows : List RelationRow) → p a ≡ true → (p b ≡ true → row_before a b ≡ true) → (same_row a b ≡ true → p b ≡ true)
     → filter p (insert_row a rows) ≡ a ∷ filter p rows → Stand a b → filter p (insert_row a (b ∷ rows)) ≡ a ∷ filter p (b ∷ rows)

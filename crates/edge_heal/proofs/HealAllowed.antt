@@ -17,13 +17,14 @@ use Rattle.drawing.proofs.Members.{contains-map}
 use Rattle.drawing.proofs.WritesInOrder.{can_write-append, written-append}
 use Rattle.edge_links.proofs.Linking.{all_set}
 use Rattle.edge_links.proofs.Writing.{can_link}
+use Rattle.edge_links.proofs.RightUnlinks.{tables_linked}
 use Rattle.edge_heal.specs.HealWrites.{healed_edges, last_heal_writes, mod_heal_in, mod_heal_writes}
 use Rattle.edge_heal.specs.Renamed.{healed_name}
 use Rattle.edge_split.specs.Splitting.{rows_boxed_as}
 use Rattle.edge_split.specs.Relinks.{all_relinks}
 use Rattle.edge_heal.proofs.HealLinks.{IsHealOf, name_in}
 use Rattle.edge_heal.proofs.HealedRows.{heal_links, healed_rows, line_id, link_id, link_on, with_line_of, with_link}
-use Rattle.edge_split.proofs.LinkWrites.{all_set_id, follower, has_mapped, links_known, links_made, writes_are}
+use Rattle.edge_split.proofs.LinkWrites.{all_set_id, follower, has_mapped, links_known, writes_are}
 use Rattle.edge_split.proofs.SplitAllowed.{EndsKnown, follower_known, row_there}
 
 -- what the writes leave
@@ -34,7 +35,7 @@ heal_written S n e f rows ids h =
     let all = healed_rows S n e f rows ids h in
     written-append S.next_ids (tables_of S) (all_relinks (name_in n e f e.edge_id) (tables_of S).edges) last
     ∙ ap (λ (ws : List RowWrite). all_written S.next_ids (all_written S.next_ids (tables_of S) ws) last) (writes_are (name_in n e f e.edge_id) (half_edges S) S.edges)
-    ∙ ap (λ (u : Tables). all_written S.next_ids u last) (links_made S.next_ids (tables_of S) (heal_links S n e f e.edge_id))
+    ∙ ap (λ (u : Tables). all_written S.next_ids u last) (tables_linked S.next_ids (tables_of S) (heal_links S n e f e.edge_id))
     ∙ (λ i. record (rows_boxed_as S (mod_heal_in S e f n)) { edges = all i })
 
 -- ---- they may be made
@@ -80,7 +81,7 @@ heal_can S n e f rows ids h first second node =
     let other = was f h.healed.f_there in
     let next = λ (x : Edge) (way : Bool) (c : Contains S.edges x). name_known e.edge_id f.edge_id m w (has_edge_row t) (follower (half_edges S) x way) own (follower_known S (has_edge_row t) h.lines was x way c) in
     let is = writes_are ren (half_edges S) S.edges in
-    let made = ap (all_written S.next_ids t) is ∙ links_made S.next_ids t ks in
+    let made = ap (all_written S.next_ids t) is ∙ tables_linked S.next_ids t ks in
     let set = map (all_set ks) t.edges in
     let ends = joined_known S n e f m first second in
     let at_set = λ (k : ℕ). has_mapped (all_set ks) (all_set_id ks) k t.edges in

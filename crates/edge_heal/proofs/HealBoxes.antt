@@ -1,24 +1,57 @@
 -- Where two edges are healed into one, each face keeps its box.
-use Rattle.std.proofs.Common.{◌≡◌, ℕ, ◌≤◌, refl, sym, ◌∙◌, ap, subst, arith, ◌⊎◌, inl, inr, ⊎_elim, Bool, true, false, cond, List, [], ◌∷◌, length, map, Option, None}
+use Rattle.std.proofs.Common.{◌≡◌, ℕ, ◌≤◌, refl, sym, ◌∙◌, ap, subst, arith, ◌⊎◌, inl, inr, ⊎_elim, Bool, true, false, cond, List, [], ◌∷◌, length, map, Option, None, ◌||◌, eqb-true, eq-eqb}
 use Rattle.std.specs.Prelude.{◌==◌, reverse}
 use Rattle.std.specs.List.{Contains}
 use Rattle.std.proofs.lemmas.Grind.{reverse_onto}
 use Rattle.std.proofs.lemmas.List.{length-reverse, reverse-reverse}
 use Rattle.std.proofs.lemmas.List.Elements.{Contains-append_cases, Contains-append_left, Contains-append_right}
+use Rattle.std.proofs.lemmas.Bool.{or_left, or_right}
 use Rattle.topo_base.specs.Point.{Point}
 use Rattle.topo_base.specs.declared.rows.Box4.{Box4}
 use Rattle.drawing.specs.Drawing.{Drawing, Edge}
-use Rattle.drawing.specs.HalfEdge.{backward_of, forward_of}
+use Rattle.drawing.specs.HalfEdge.{backward_of, forward_of, HalfEdge, twin}
 use Rattle.drawing.specs.HealEdges.{away_from, joined_edge}
 use Rattle.plane.specs.Line.{first_vertex, joined, last_vertex}
 use Rattle.drawing.specs.Subdivision.{rings_have_one_face}
 use Rattle.drawing.specs.Tables.{face_box, face_row, has_side}
 use Rattle.plane.proofs.ListTests.{contains_cases, contains_here, contains_none, contains_there}
 use Rattle.face_rings.proofs.HalfLines.{HasPlainLines}
-use Rattle.edge_heal.proofs.HealLinks.{edge_cases, make_joint}
-use Rattle.edge_heal.proofs.HealSides.{first_beside, second_beside}
+use Rattle.face_rings.proofs.Ranks.{by_bool}
 use Rattle.edge_split.proofs.SplitBoxes.{Spans, beside, beside_has, least_same, of_beside}
-use Rattle.ring_laws.proofs.Joint.{IsHealed}
+use Rattle.ring_laws.proofs.Joint.{IsHealed, edge_cases, make_joint, AreBoth, joint_sides}
+use Rattle.ring_laws.proofs.Turning.{joined_of}
+
+-- ---- a face beside the second edge is beside the first
+side_out : (x : Edge) (h k : HalfEdge) (g : ℕ) → AreBoth x h (twin h) → has_side g x ≡ true → (h.on_left ≡ g) ⊎ (h.on_right ≡ g)
+side_out x h k g both side = by_way both (by_bool (x.left_face == g))
+  where
+    second : (b c : Bool) → b ≡ false → (b || c) ≡ true → c ≡ true
+    second true c e t = absurd cc
+    second false c e t = t
+
+    by_way : AreBoth x h (twin h) → ((x.left_face == g) ≡ true) ⊎ ((x.left_face == g) ≡ false) → (h.on_left ≡ g) ⊎ (h.on_right ≡ g)
+    by_way (inl b) (inl t) = inl (ap (λ (z : HalfEdge). z.on_left) (sym b.0) ∙ eqb-true x.left_face g t)
+    by_way (inl b) (inr t) = inr (ap (λ (z : HalfEdge). z.on_right) (sym b.0) ∙ eqb-true x.right_face g (second (x.left_face == g) (x.right_face == g) t side))
+    by_way (inr b) (inl t) = inr (ap (λ (z : HalfEdge). z.on_right) (sym b.0) ∙ eqb-true x.left_face g t)
+    by_way (inr b) (inr t) = inl (ap (λ (z : HalfEdge). z.on_left) (sym b.0) ∙ eqb-true x.right_face g (second (x.left_face == g) (x.right_face == g) t side))
+
+side_in : (x : Edge) (h : HalfEdge) (g : ℕ) → AreBoth x h (twin h) → (h.on_left ≡ g) ⊎ (h.on_right ≡ g) → has_side g x ≡ true
+side_in x h g (inl b) (inl t) = or_left (x.left_face == g) (x.right_face == g) (eq-eqb x.left_face g (ap (λ (z : HalfEdge). z.on_left) b.0 ∙ t))
+side_in x h g (inl b) (inr t) = or_right (x.left_face == g) (x.right_face == g) (eq-eqb x.right_face g (ap (λ (z : HalfEdge). z.on_right) b.0 ∙ t))
+side_in x h g (inr b) (inl t) = or_right (x.left_face == g) (x.right_face == g) (eq-eqb x.right_face g (ap (λ (z : HalfEdge). z.on_left) b.0 ∙ t))
+side_in x h g (inr b) (inr t) = or_left (x.left_face == g) (x.right_face == g) (eq-eqb x.left_face g (ap (λ (z : HalfEdge). z.on_right) b.0 ∙ t))
+
+first_beside : (S : Drawing) (n : ℕ) (e f : Edge) (id : ℕ) (fs : List Edge) (g : ℕ) → HasPlainLines S → rings_have_one_face S ≡ true → IsHealed S n e f id fs → has_side g f ≡ true → has_side g e ≡ true
+first_beside S n e f id fs g good one h side =
+    let j = make_joint S n e f id fs good h in
+    let (lefts, rights) = joint_sides S n e f id fs good (joined_of S good one) h j in
+    side_in e j.up g j.of_e (⊎_elim (λ (p : j.on.on_left ≡ g). inl (lefts ∙ p)) (λ (p : j.on.on_right ≡ g). inr (sym rights ∙ p)) (side_out f j.on j.on g j.of_f side))
+
+second_beside : (S : Drawing) (n : ℕ) (e f : Edge) (id : ℕ) (fs : List Edge) (g : ℕ) → HasPlainLines S → rings_have_one_face S ≡ true → IsHealed S n e f id fs → has_side g e ≡ true → has_side g f ≡ true
+second_beside S n e f id fs g good one h side =
+    let j = make_joint S n e f id fs good h in
+    let (lefts, rights) = joint_sides S n e f id fs good (joined_of S good one) h j in
+    side_in f j.on g j.of_f (⊎_elim (λ (p : j.up.on_left ≡ g). inl (sym lefts ∙ p)) (λ (p : j.up.on_right ≡ g). inr (rights ∙ p)) (side_out e j.up j.up g j.of_e side))
 
 -- ---- the vertices of lines walked back, and joined
 reversed_has : (l : List Point) (q : Point) → Contains l q → Contains (reverse l) q
@@ -83,7 +116,7 @@ joined_line_has n e f id q c = by (n == e.end_node) c
         ⊎_elim (λ (d : Contains (reverse ((away_from n f).points)) q). inr (away_has n f q (has_reversed ((away_from n f).points) q d))) (λ (d : Contains e.geom q). inl d) (joined_has (reverse ((away_from n f).points)) e.geom q k)
 
 in_joined_line : (S : Drawing) (n : ℕ) (e f : Edge) (id : ℕ) (fs : List Edge) (q : Point) → HasPlainLines S → IsHealed S n e f id fs → Contains e.geom q ⊎ Contains f.geom q → Contains ((joined_edge n e f id).geom) q
-in_joined_line S n e f id fs q good h c = by (n == e.end_node) (make_joint S n e f id fs good h).meets
+in_joined_line S n e f id fs q good h c = let j = make_joint S n e f id fs good h in by (n == e.end_node) (j.at_end, j.at_start)
   where
     e_long : 2 ≤ length e.geom
     e_long = good.long e h.e_there

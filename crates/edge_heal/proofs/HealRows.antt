@@ -8,8 +8,9 @@ use Rattle.drawing.specs.Drawing.{Drawing, Edge}
 use Rattle.drawing.specs.HalfEdge.{HalfEdge, backward_of, both_ways, dart_of, forward_of, half_edges, twin}
 use Rattle.drawing.specs.HealEdges.{away_from, joined_edge}
 use Rattle.drawing.specs.Star.{next_of}
-use Rattle.edge_heal.proofs.HealLinks.{AreBoth, IsHealOf, joined_links, name_in}
+use Rattle.edge_heal.proofs.HealLinks.{IsHealOf, joined_links, name_in}
 use Rattle.edge_split.proofs.LinkWrites.{follower}
+use Rattle.ring_laws.proofs.Joint.{AreBoth}
 
 -- the half-edges of an edge by their ways
 half_is : (x : Edge) (h k : HalfEdge) (hs : List HalfEdge) → AreBoth x h k → follower hs x h.is_forward ≡ dart_of (next_of hs h)

@@ -1,7 +1,6 @@
 pub mod HealLinks
 pub mod HealRows
 pub mod HealedRows
-pub mod HealSides
 pub mod HealBoxes
 pub mod HealAllowed
 pub mod HealJoint

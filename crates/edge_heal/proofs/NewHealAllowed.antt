@@ -18,17 +18,18 @@ use Rattle.drawing.specs.Writes.{all_written, dart_named, edge_row_id, written}
 use Rattle.plane.proofs.ListTests.{contains_here}
 use Rattle.drawing.proofs.Members.{contains-filter, contains-map}
 use Rattle.drawing.proofs.WritesInOrder.{can_write-append, written-append}
-use Rattle.ring_laws.proofs.Known.{any_in, any_out}
+use Rattle.ring_laws.proofs.Known.{any_in, any_out, any_more, any_behind}
 use Rattle.edge_links.proofs.Linking.{all_set}
 use Rattle.edge_links.proofs.Writing.{can_link}
 use Rattle.edge_links.specs.Links.{row_dart}
+use Rattle.edge_links.proofs.RightUnlinks.{tables_linked}
 use Rattle.edge_heal.specs.NewHeal.{both_go, joined_write, new_heal_in, new_heal_writes, new_healed_edges}
 use Rattle.edge_split.specs.Splitting.{rows_boxed_as}
 use Rattle.edge_split.specs.Relinks.{all_relinks}
 use Rattle.edge_heal.proofs.HealAllowed.{joined_known, name_known}
 use Rattle.edge_heal.proofs.HealLinks.{IsHealOf, name_in}
 use Rattle.edge_heal.proofs.HealedRows.{heal_links, joined_sides, link_on}
-use Rattle.edge_split.proofs.LinkWrites.{all_set_id, any_left, any_right, follower, has_mapped, links_known, links_made, writes_are}
+use Rattle.edge_split.proofs.LinkWrites.{all_set_id, follower, has_mapped, links_known, writes_are}
 use Rattle.edge_heal.proofs.NewHealedRows.{came_row, link_back, new_healed_rows}
 use Rattle.edge_split.proofs.SplitAllowed.{EndsKnown, face_there, follower_known, row_there}
 use Rattle.edge_split.proofs.SplitRows.{differs}
@@ -62,7 +63,7 @@ new_heal_written S n e f rows ids h =
     let all = new_healed_rows S n e f rows ids h in
     written-append S.next_ids t (all_relinks (name_in n e f id) (tables_of S).edges) last
     ∙ ap (λ (ws : List RowWrite). all_written S.next_ids (all_written S.next_ids t ws) last) (writes_are (name_in n e f id) (half_edges S) S.edges)
-    ∙ ap (λ (u : Tables). all_written S.next_ids u last) (links_made S.next_ids t (heal_links S n e f id))
+    ∙ ap (λ (u : Tables). all_written S.next_ids u last) (tables_linked S.next_ids t (heal_links S n e f id))
     ∙ (λ i. all_written S.next_ids (record t { edges = map (all_set (heal_links S n e f id)) (row_came S n e f i) }) last)
     ∙ (λ i. record (rows_boxed_as S (new_heal_in S e f n)) { edges = all i })
 
@@ -117,11 +118,11 @@ new_heal_can S n e f rows ids h first second node more =
     let last = both_go e f n in
     let old = (tables_of S).edges in
     let there = λ (k : ℕ) (q : list_any (λ (r : EdgeRow). edge_row_id r == k) (old ++ came_row S n e f ∷ []) ≡ true). ap (λ (rs : List EdgeRow). has_row edge_row_id rs k) (row_came S n e f) ∙ q in
-    let was = λ (x : Edge) (c : Contains S.edges x). there x.edge_id (any_left (λ (r : EdgeRow). edge_row_id r == x.edge_id) old (came_row S n e f ∷ []) (row_there old (edge_row (half_edges S) x) (contains-map (edge_row (half_edges S)) x S.edges c))) in
-    let came = there id (any_right (λ (r : EdgeRow). edge_row_id r == id) old (came_row S n e f ∷ []) (row_there (came_row S n e f ∷ []) (came_row S n e f) (contains_here (came_row S n e f) []))) in
+    let was = λ (x : Edge) (c : Contains S.edges x). there x.edge_id (any_more (λ (r : EdgeRow). edge_row_id r == x.edge_id) old (came_row S n e f ∷ []) (row_there old (edge_row (half_edges S) x) (contains-map (edge_row (half_edges S)) x S.edges c))) in
+    let came = there id (any_behind (λ (r : EdgeRow). edge_row_id r == id) old (came_row S n e f ∷ []) (row_there (came_row S n e f ∷ []) (came_row S n e f) (contains_here (came_row S n e f) []))) in
     let next = λ (x : Edge) (way : Bool) (c : Contains S.edges x). name_known e.edge_id f.edge_id id (n == e.end_node) (has_edge_row t) (follower (half_edges S) x way) came (follower_known S (has_edge_row t) h.lines was x way c) in
     let is = writes_are ren (half_edges S) S.edges in
-    let made = ap (all_written S.next_ids t) is ∙ links_made S.next_ids t ks in
+    let made = ap (all_written S.next_ids t) is ∙ tables_linked S.next_ids t ks in
     let set = map (all_set ks) t.edges in
     let at_set = λ (k : ℕ). has_mapped (all_set ks) (all_set_id ks) k t.edges in
     let other = row_stays set e.edge_id f.edge_id (differs f.edge_id e.edge_id (λ q. h.healed.differ (sym q))) (at_set f.edge_id ∙ was f h.healed.f_there) in

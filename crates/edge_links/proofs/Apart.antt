@@ -206,11 +206,6 @@ closed_edge nodes edges plain differ e c node some back one =
     (subst IsNotZero dir some) (subst IsNotZero dir_back back) (subst (OneDirection (direction_to x.0 x.1.0)) dir_back (subst (λ u. OneDirection u (first_direction (reverse e.geom))) dir one))
 
 -- ---- any two half-edges that leave a node
-way_back : (a b : Bool) → same_way a b ≡ true → a ≡ b
-way_back true b h = sym h
-way_back false true h = absurd cc
-way_back false false h = refl
-
 same_of_one : (h k : HalfEdge) → h ≡ k → same_half_edge h k ≡ true
 same_of_one h k e = subst (λ (z : HalfEdge). same_half_edge h z ≡ true) e (same_self h)
 

@@ -1,6 +1,7 @@
 -- The star of a node with the half-edges of an edge that comes last.
 use Rattle.std.proofs.Common.{◌≡◌, ℕ, refl, sym, ◌∙◌, ap, subst, ◌⊎◌, inl, inr, ⊎_elim, Bool, true, false, cond, List, [], ◌∷◌, ◌++◌, filter}
 use Rattle.std.specs.List.{Contains}
+use Rattle.std.proofs.lemmas.List.Elements.{Contains-append_right}
 use Rattle.plane.proofs.ListTests.{contains_here, contains_there, contains_cases, contains_none}
 use Rattle.drawing.proofs.Members.{Pairwise}
 use Rattle.drawing.specs.Drawing.{Edge}
@@ -18,19 +19,11 @@ filter_append p (x ∷ xs) ys = step (p x) (filter_append p xs ys)
     step true e = ap (λ zs. x ∷ zs) e
     step false e = e
 
-contains_front : {X : Type 0} (x : X) (xs ys : List X) → Contains xs x → Contains (xs ++ ys) x
-contains_front x [] ys c = absurd (contains_none x c)
-contains_front x (y ∷ xs) ys c = ⊎_elim (λ (e : y ≡ x). subst (λ z. Contains (y ∷ (xs ++ ys)) z) e (contains_here y (xs ++ ys))) (λ (d : Contains xs x). contains_there x y (xs ++ ys) (contains_front x xs ys d)) (contains_cases x y xs c)
-
-contains_back : {X : Type 0} (x : X) (xs ys : List X) → Contains ys x → Contains (xs ++ ys) x
-contains_back x [] ys c = c
-contains_back x (y ∷ xs) ys c = contains_there x y (xs ++ ys) (contains_back x xs ys c)
-
 -- of two lists in a row
 pub pairs_across : {X : Type 0} (R : X → X → Type 0) (xs ys : List X) (x y : X) → Pairwise R (xs ++ ys) → Contains xs x → Contains ys y → R x y
 pairs_across R [] ys x y h c d = absurd (contains_none x c)
 pairs_across R (z ∷ xs) ys x y h c d =
-    ⊎_elim (λ (e : z ≡ x). subst (λ w. R w y) e (h.0 y (contains_back y xs ys d))) (λ (f : Contains xs x). pairs_across R xs ys x y h.1 f d) (contains_cases x z xs c)
+    ⊎_elim (λ (e : z ≡ x). subst (λ w. R w y) e (h.0 y (Contains-append_right xs ys y d))) (λ (f : Contains xs x). pairs_across R xs ys x y h.1 f d) (contains_cases x z xs c)
 
 pub pairs_behind : {X : Type 0} (R : X → X → Type 0) (xs ys : List X) → Pairwise R (xs ++ ys) → Pairwise R ys
 pairs_behind R [] ys h = h

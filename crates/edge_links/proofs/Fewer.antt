@@ -13,7 +13,7 @@ use Rattle.drawing.specs.Rows.{without_row}
 use Rattle.drawing.specs.Star.{leaving, insert_clockwise, clockwise, star}
 use Rattle.edge_links.specs.Unlinks.{is_other, others}
 use Rattle.edge_links.proofs.Following.{IsStar}
-use Rattle.edge_links.proofs.Sorting.{AreOrdered, are_sorted, first_of_two, clockwise_sorted}
+use Rattle.edge_links.proofs.Sorting.{AreOrdered, are_sorted, first_of_two, clockwise_sorted, tail_sorted}
 
 -- a half-edge of another edge
 abbrev pub is_other_half : ℕ → HalfEdge → Bool
@@ -68,10 +68,6 @@ half_edges_fewer id (x ∷ edges) = by_test (not (x.edge_id == id)) (half_edges_
     by_test false rest = rest
 
 -- ---- fewer in a star
-tail_sorted : (k : HalfEdge) (ks : List HalfEdge) → IsTrue (are_sorted (k ∷ ks)) → IsTrue (are_sorted ks)
-tail_sorted k [] s = refl
-tail_sorted k (x ∷ ks) s = (and_parts (first_of_two k x) (are_sorted (x ∷ ks)) s).1
-
 -- what comes before the first comes before all
 before_all : (h k x : HalfEdge) (ks : List HalfEdge) → IsTrue (first_of_two h k) → IsTrue (are_sorted (k ∷ ks)) → Contains (k ∷ ks) x → IsTrue (first_of_two h x)
 before_all h k x [] hk sorted c = ⊎_elim (λ (e : k ≡ x). subst (λ z. IsTrue (first_of_two h z)) e hk) (λ (d : Contains [] x). absurd (contains_none x d)) (contains_cases x k [] c)

@@ -87,25 +87,25 @@ row_after (k ∷ ks) x left right =
     ∙ row_after ks x (if is_of k x true then k.next else left) (if is_of k x false then k.next else right)
 
 -- each of these that is of the edge is right
-abbrev pub AreRight : List Link → Edge → Bool → Dart → Type 0
-AreRight [] x way d = Unit {0}
-AreRight (k ∷ ks) x way d = (is_of k x way ≡ true → k.next ≡ d) × AreRight ks x way d
+abbrev pub LinksAreRight : List Link → Edge → Bool → Dart → Type 0
+LinksAreRight [] x way d = Unit {0}
+LinksAreRight (k ∷ ks) x way d = (is_of k x way ≡ true → k.next ≡ d) × LinksAreRight ks x way d
 
 keep_by : (b : Bool) (next d e : Dart) → (b ≡ true → next ≡ d) → e ≡ d → cond b next e ≡ d
 keep_by true next d e right is = right refl
 keep_by false next d e right is = is
 
 -- a link that is right stays so
-pub stays_right : (ks : List Link) (x : Edge) (way : Bool) (d e : Dart) → AreRight ks x way d → e ≡ d → link_after ks x way e ≡ d
+pub stays_right : (ks : List Link) (x : Edge) (way : Bool) (d e : Dart) → LinksAreRight ks x way d → e ≡ d → link_after ks x way e ≡ d
 stays_right [] x way d e right is = is
 stays_right (k ∷ ks) x way d e right is = stays_right ks x way d (if is_of k x way then k.next else e) right.1 (keep_by (is_of k x way) k.next d e right.0 is)
 
-becomes_by : (b : Bool) (k : Link) (ks : List Link) (x : Edge) (way : Bool) (d e : Dart) → (b ≡ true → k.next ≡ d) → AreRight ks x way d → (b || list_any (λ j. is_of j x way) ks) ≡ true
+becomes_by : (b : Bool) (k : Link) (ks : List Link) (x : Edge) (way : Bool) (d e : Dart) → (b ≡ true → k.next ≡ d) → LinksAreRight ks x way d → (b || list_any (λ j. is_of j x way) ks) ≡ true
     → ((c : Dart) → list_any (λ j. is_of j x way) ks ≡ true → link_after ks x way c ≡ d) → link_after ks x way (cond b k.next e) ≡ d
 becomes_by true k ks x way d e right rest any more = stays_right ks x way d k.next rest (right refl)
 becomes_by false k ks x way d e right rest any more = more e any
 
 -- one that is set becomes right
-pub becomes_right : (ks : List Link) (x : Edge) (way : Bool) (d e : Dart) → AreRight ks x way d → list_any (λ j. is_of j x way) ks ≡ true → link_after ks x way e ≡ d
+pub becomes_right : (ks : List Link) (x : Edge) (way : Bool) (d e : Dart) → LinksAreRight ks x way d → list_any (λ j. is_of j x way) ks ≡ true → link_after ks x way e ≡ d
 becomes_right [] x way d e right any = absurd cc
 becomes_right (k ∷ ks) x way d e right any = becomes_by (is_of k x way) k ks x way d e right.0 right.1 any (λ c more. becomes_right ks x way d c right.1 more)

@@ -35,7 +35,7 @@ leaving_of : (S : Drawing) (e : Edge) → IsPlainInOrder S → Contains S.edges 
 leaving_of S e plain there start end = record { there = there; at_start = node_of S e.start_node plain start; at_end = node_of S e.end_node plain end }
 
 -- ---- links written change the edges alone
-tables_linked : (n : Counters) (t : Tables) (ks : List Link) → all_written n t (map link_write ks) ≡ record t { edges = map (all_set ks) t.edges }
+pub tables_linked : (n : Counters) (t : Tables) (ks : List Link) → all_written n t (map link_write ks) ≡ record t { edges = map (all_set ks) t.edges }
 tables_linked n t [] = ap (λ (es : List EdgeRow). record t { edges = es }) (map_self t.edges)
 tables_linked n t (k ∷ ks) = tables_linked n (written n t (link_write k)) ks ∙ ap (λ (es : List EdgeRow). record t { edges = es }) (map_map (all_set ks) (link_set k) t.edges)
 

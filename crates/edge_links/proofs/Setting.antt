@@ -14,7 +14,7 @@ use Rattle.edge_links.proofs.Added.{half_edges_push, next_cases}
 use Rattle.edge_links.proofs.Following.{IsStar, in_star}
 use Rattle.edge_links.proofs.Half.{half_edges_have, twin_backward}
 use Rattle.edge_links.proofs.Linked.{half, follower, link_to, link_from, from_right, to_right, to_set, from_set}
-use Rattle.edge_links.proofs.Linking.{Link, AreRight, all_set, is_of, link_after, map_append, map_rows, row_after, row_with, stays_right, becomes_right}
+use Rattle.edge_links.proofs.Linking.{Link, LinksAreRight, all_set, is_of, link_after, map_append, map_rows, row_after, row_with, stays_right, becomes_right}
 
 pub contains_last : {X : Type 0} (x : X) (xs : List X) → Contains (xs ++ x ∷ []) x
 contains_last x [] = contains_here x []
@@ -33,7 +33,7 @@ links_of old e =
     link_to (forward_of e) (star_at old e e.start_node) ∷ link_from (forward_of e) (star_at old e e.start_node)
     ∷ link_to (backward_of e) (star_at old e e.end_node) ∷ link_from (backward_of e) (star_at old e e.end_node) ∷ []
 
-record IsComing (old : List Edge) (e : Edge) : Type 0 where
+record HasStars (old : List Edge) (e : Edge) : Type 0 where
   at_start : IsStar (old ++ e ∷ []) e.start_node
   at_end : IsStar (old ++ e ∷ []) e.end_node
 
@@ -43,7 +43,7 @@ start_stands old e = in_star (old ++ e ∷ []) e.start_node (forward_of e) (half
 pub end_stands : (old : List Edge) (e : Edge) → Contains (star_at old e e.end_node) (backward_of e)
 end_stands old e = in_star (old ++ e ∷ []) e.end_node (backward_of e) (half_edges_have (backward_of e) e (old ++ e ∷ []) (contains_last e old) (inr refl)) (eq-eqb e.end_node e.end_node refl)
 
-all_right : (old : List Edge) (e : Edge) → IsComing old e → (x : Edge) → Contains (old ++ e ∷ []) x → (way : Bool) → AreRight (links_of old e) x way (follower (old ++ e ∷ []) x way)
+all_right : (old : List Edge) (e : Edge) → HasStars old e → (x : Edge) → Contains (old ++ e ∷ []) x → (way : Bool) → LinksAreRight (links_of old e) x way (follower (old ++ e ∷ []) x way)
 all_right old e ok x c way =
     let edges = old ++ e ∷ [] in (
       to_right edges e.start_node ok.at_start (forward_of e) (start_stands old e) x c way,
@@ -70,7 +70,7 @@ fourth_set : (a b c d : Bool) → d ≡ true → (a || (b || (c || (d || false))
 fourth_set a b c d h = or_right a (b || (c || (d || false))) (or_right b (c || (d || false)) (or_right c (d || false) (or_left d false h)))
 
 -- a link of an edge that was there
-old_link : (old : List Edge) (e : Edge) → IsComing old e → (x : Edge) → Contains old x → (way : Bool)
+old_link : (old : List Edge) (e : Edge) → HasStars old e → (x : Edge) → Contains old x → (way : Bool)
     → link_after (links_of old e) x way (dart_of (next_of (flat_map both_ways old) (half x way))) ≡ follower (old ++ e ∷ []) x way
 old_link old e ok x c way =
     let edges = old ++ e ∷ [] in
@@ -106,7 +106,7 @@ old_link old e ok x c way =
     (next_cases (flat_map both_ways old) e h)
 
 -- a link of the edge itself
-own_left : (old : List Edge) (e : Edge) → IsComing old e → (d : Dart) → link_after (links_of old e) e true d ≡ follower (old ++ e ∷ []) e true
+own_left : (old : List Edge) (e : Edge) → HasStars old e → (d : Dart) → link_after (links_of old e) e true d ≡ follower (old ++ e ∷ []) e true
 own_left old e ok d =
     let first = is_of (link_to (forward_of e) (star_at old e e.start_node)) e true in
     let second = is_of (link_from (forward_of e) (star_at old e e.start_node)) e true in
@@ -114,7 +114,7 @@ own_left old e ok d =
     becomes_right (links_of old e) e true (follower (old ++ e ∷ []) e true) d (all_right old e ok e (contains_last e old) true)
     (fourth_set first second third (is_of (link_from (backward_of e) (star_at old e e.end_node)) e true) (from_set e true (star_at old e e.end_node)))
 
-own_right : (old : List Edge) (e : Edge) → IsComing old e → (d : Dart) → link_after (links_of old e) e false d ≡ follower (old ++ e ∷ []) e false
+own_right : (old : List Edge) (e : Edge) → HasStars old e → (d : Dart) → link_after (links_of old e) e false d ≡ follower (old ++ e ∷ []) e false
 own_right old e ok d =
     let first = is_of (link_to (forward_of e) (star_at old e e.start_node)) e false in
     let third = is_of (link_to (backward_of e) (star_at old e e.end_node)) e false in
@@ -131,7 +131,7 @@ rows_of_links x left right left' right' e f = ap (λ d. row_with x d right) e �
 pub links_set : (old : List Edge) (e : Edge) → IsStar (old ++ e ∷ []) e.start_node → IsStar (old ++ e ∷ []) e.end_node → (left right : Dart)
     → map (all_set (links_of old e)) (map (edge_row (flat_map both_ways old)) old ++ row_with e left right ∷ []) ≡ map (edge_row (flat_map both_ways (old ++ e ∷ []))) (old ++ e ∷ [])
 links_set old e at_start at_end left right =
-    let ok : IsComing old e = record { at_start = at_start; at_end = at_end } in
+    let ok : HasStars old e = record { at_start = at_start; at_end = at_end } in
     let ks = links_of old e in
     let was = flat_map both_ways old in
     let now = flat_map both_ways (old ++ e ∷ []) in

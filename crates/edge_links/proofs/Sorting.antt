@@ -75,7 +75,7 @@ sorted_has x (h ∷ hs) c =
 abbrev pub are_sorted : List HalfEdge → Bool
 are_sorted hs = are_nearer_first straight_up (map leaving hs)
 
-tail_sorted : (k : HalfEdge) (ks : List HalfEdge) → IsTrue (are_sorted (k ∷ ks)) → IsTrue (are_sorted ks)
+pub tail_sorted : (k : HalfEdge) (ks : List HalfEdge) → IsTrue (are_sorted (k ∷ ks)) → IsTrue (are_sorted ks)
 tail_sorted k [] s = refl
 tail_sorted k (x ∷ ks) s = (and_parts (first_of_two k x) (are_sorted (x ∷ ks)) s).1
 

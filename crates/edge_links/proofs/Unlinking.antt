@@ -19,7 +19,7 @@ use Rattle.edge_links.proofs.Following.{IsStar, in_star, may_follow}
 use Rattle.edge_links.proofs.Gone.{after_stays, before_are, before_has}
 use Rattle.edge_links.proofs.Half.{in_half_edges, half_edges_have, half_id, half_twin, one_edge}
 use Rattle.edge_links.proofs.Linked.{half, half_is, half_name, follower, link_from, from_right, from_set}
-use Rattle.edge_links.proofs.Linking.{Link, AreRight, all_set, is_of, link_after, map_rows, row_after, stays_right, becomes_right}
+use Rattle.edge_links.proofs.Linking.{Link, LinksAreRight, all_set, is_of, link_after, map_rows, row_after, stays_right, becomes_right}
 use Rattle.edge_links.proofs.Setting.{rows_of_links}
 use Rattle.edge_links.proofs.Sorting.{AreOrdered}
 use Rattle.edge_links.proofs.Writing.{AreKnown, after_known, stands_known}
@@ -33,7 +33,7 @@ any_has p x (y ∷ xs) c h =
     (λ (d : Contains xs x). or_right (p y) (list_any p xs) (any_has p x xs d h))
     (contains_cases x y xs c)
 
-right_all : (ks : List Link) (x : Edge) (way : Bool) (d : Dart) → ((k : Link) → Contains ks k → is_of k x way ≡ true → k.next ≡ d) → AreRight ks x way d
+right_all : (ks : List Link) (x : Edge) (way : Bool) (d : Dart) → ((k : Link) → Contains ks k → is_of k x way ≡ true → k.next ≡ d) → LinksAreRight ks x way d
 right_all [] x way d each = tt
 right_all (k ∷ ks) x way d each = (each k (contains_here k ks), right_all ks x way d (λ j c. each j (contains_there j k ks c)))
 
@@ -177,7 +177,7 @@ in_all edges e ok k c =
     by_closed true d = absurd (contains_none k d)
     by_closed false d = (e.end_node, (ok.at_end, d))
 
-all_right : (edges : List Edge) (e : Edge) → IsLeaving edges e → (x : Edge) → Contains (less edges e.edge_id) x → (way : Bool) → AreRight (all_unlinks edges e) x way (follower (less edges e.edge_id) x way)
+all_right : (edges : List Edge) (e : Edge) → IsLeaving edges e → (x : Edge) → Contains (less edges e.edge_id) x → (way : Bool) → LinksAreRight (all_unlinks edges e) x way (follower (less edges e.edge_id) x way)
 all_right edges e ok x cx way = right_all (all_unlinks edges e) x way (follower (less edges e.edge_id) x way) (λ k c is. let r = in_all edges e ok k c in unlink_right edges e.edge_id r.0 r.1.0 k r.1.1 x cx way is)
 
 pub all_known : (edges : List Edge) (e : Edge) → IsLeaving edges e → (has : ℕ → Bool) → ((x : Edge) → Contains (less edges e.edge_id) x → has x.edge_id ≡ true) → AreKnown has (all_unlinks edges e)

@@ -29,7 +29,7 @@ known_still : (has has' : ℕ → Bool) (ks : List Link) → ((n : ℕ) → has'
 known_still has has' [] same known = tt
 known_still has has' (k ∷ ks) same known = (same k.back.edge ∙ known.0, same k.next.edge ∙ known.1, known_still has has' ks same known.2)
 
-set_id : (b w : Bool) (next : Dart) (r : EdgeRow) → edge_row_id (cond b (with_next (hand_back w) next r) r) ≡ edge_row_id r
+pub set_id : (b w : Bool) (next : Dart) (r : EdgeRow) → edge_row_id (cond b (with_next (hand_back w) next r) r) ≡ edge_row_id r
 set_id true true next r = refl
 set_id true false next r = refl
 set_id false w next r = refl

@@ -1,24 +1,24 @@
 -- Links where darts have other names after an edit are set anew, row by row.
-use Rattle.std.proofs.Common.{◌≡◌, ℕ, refl, sym, ◌∙◌, ap, Bool, true, false, not, cond, ⊎_elim, eqb-true, eq-eqb, List, [], ◌∷◌, ◌++◌, map, subst}
+use Rattle.std.proofs.Common.{◌≡◌, ℕ, refl, sym, ◌∙◌, Bool, true, false, not, cond, ⊎_elim, eqb-true, eq-eqb, List, [], ◌∷◌, ◌++◌, map, subst}
 use Rattle.std.specs.Prelude.{◌||◌, ◌==◌, flat_map}
 use Rattle.std.specs.List.{Contains, list_any}
-use Rattle.std.proofs.lemmas.Bool.{and_parts, and_from, or_left, or_right}
+use Rattle.std.proofs.lemmas.Bool.{and_parts, and_from, or_left}
 use Rattle.topo_base.specs.Darts.{same_dart, same_way}
 use Rattle.topo_base.specs.declared.ids.Dart.{Dart}
-use Rattle.topo_base.specs.declared.rows.Counters.{Counters}
 use Rattle.topo_base.specs.declared.rows.EdgeRow.{EdgeRow}
 use Rattle.drawing.specs.Drawing.{Edge}
 use Rattle.drawing.specs.HalfEdge.{HalfEdge, backward_of, dart_of, forward_of}
 use Rattle.drawing.specs.Star.{next_of}
-use Rattle.drawing.specs.Tables.{Tables, edge_row}
-use Rattle.drawing.specs.Writes.{all_written, edge_row_id, with_next, written}
+use Rattle.drawing.specs.Tables.{edge_row}
+use Rattle.drawing.specs.Writes.{edge_row_id, with_next}
 use Rattle.plane.proofs.ListTests.{contains_cases, contains_here, contains_none, contains_there}
 use Rattle.face_rings.proofs.Ranks.{by_bool, same_out}
 use Rattle.edge_links.specs.Links.{hand_back}
-use Rattle.edge_links.proofs.Linking.{AreRight, Link, all_set, becomes_right, is_of, link_after, link_write, map_append, row_after, row_with, stays_right}
-use Rattle.edge_links.proofs.Writing.{AreKnown}
+use Rattle.edge_links.proofs.Linking.{LinksAreRight, Link, all_set, becomes_right, is_of, link_after, link_write, map_append, row_after, row_with, stays_right}
+use Rattle.edge_links.proofs.Writing.{AreKnown, set_id}
 use Rattle.edge_split.specs.Renamed.{renamed}
 use Rattle.edge_split.specs.Relinks.{all_relinks, relink, relinks}
+use Rattle.ring_laws.proofs.Known.{any_more, any_behind}
 
 -- what follows an edge, walked this way
 abbrev pub follower : List HalfEdge → Edge → Bool → Dart
@@ -64,27 +64,10 @@ writes_are ren hs (x ∷ xs) =
     (λ i. row_writes ren hs x i ++ writes_are ren hs xs i) ∙ sym (map_append link_write (both_links ren hs x) (all_links ren hs xs))
 
 -- ---- what they leave
-map_self : {X : Type 0} (xs : List X) → xs ≡ map (λ x. x) xs
-map_self [] = refl
-map_self (x ∷ xs) = ap (λ zs. x ∷ zs) (map_self xs)
-
-map_map : {X Y Z : Type 0} (f : Y → Z) (g : X → Y) (xs : List X) → map f (map g xs) ≡ map (λ x. f (g x)) xs
-map_map f g [] = refl
-map_map f g (x ∷ xs) = ap (λ zs. f (g x) ∷ zs) (map_map f g xs)
-
 abbrev set_one : Link → EdgeRow → EdgeRow
 set_one k r = cond (edge_row_id r == k.back.edge) (with_next (hand_back k.back.forward) k.next r) r
 
-pub links_made : (n : Counters) (t : Tables) (ks : List Link) → all_written n t (map link_write ks) ≡ record t { edges = map (all_set ks) t.edges }
-links_made n t [] = λ i. record t { edges = map_self t.edges i }
-links_made n t (k ∷ ks) = links_made n (written n t (link_write k)) ks ∙ (λ i. record t { edges = map_map (all_set ks) (set_one k) t.edges i })
-
 -- ids stay
-set_id : (b w : Bool) (next : Dart) (r : EdgeRow) → edge_row_id (cond b (with_next (hand_back w) next r) r) ≡ edge_row_id r
-set_id true true next r = refl
-set_id true false next r = refl
-set_id false w next r = refl
-
 pub all_set_id : (ks : List Link) (r : EdgeRow) → edge_row_id (all_set ks r) ≡ edge_row_id r
 all_set_id [] r = refl
 all_set_id (k ∷ ks) r = all_set_id ks (set_one k r) ∙ set_id (edge_row_id r == k.back.edge) k.back.forward k.next r
@@ -97,7 +80,7 @@ pub links_keep : (ks : List Link) (n : ℕ) (rows : List EdgeRow) → list_any (
 links_keep ks n rows = has_mapped (all_set ks) (all_set_id ks) n rows
 
 -- ---- each is right
-right_append : (ks js : List Link) (x : Edge) (way : Bool) (d : Dart) → AreRight ks x way d → AreRight js x way d → AreRight (ks ++ js) x way d
+right_append : (ks js : List Link) (x : Edge) (way : Bool) (d : Dart) → LinksAreRight ks x way d → LinksAreRight js x way d → LinksAreRight (ks ++ js) x way d
 right_append [] js x way d a b = b
 right_append (k ∷ ks) js x way d a b = (a.0, right_append ks js x way d a.1 b)
 
@@ -111,18 +94,18 @@ way_self : (w : Bool) → same_way (not (not w)) w ≡ true
 way_self true = refl
 way_self false = refl
 
-right_one : (ren : Dart → Dart) (edge : ℕ) (w : Bool) (d : Dart) (x : Edge) (way : Bool) (goal : Dart) → (x.edge_id ≡ edge → w ≡ way → ren d ≡ goal) → AreRight (one_link ren edge w d) x way goal
+right_one : (ren : Dart → Dart) (edge : ℕ) (w : Bool) (d : Dart) (x : Edge) (way : Bool) (goal : Dart) → (x.edge_id ≡ edge → w ≡ way → ren d ≡ goal) → LinksAreRight (one_link ren edge w d) x way goal
 right_one ren edge w d x way goal each = by (same_dart (ren d) d)
   where
     k : Link
     k = record { back = record { edge = edge; forward = not w }; next = ren d }
 
-    by : (b : Bool) → AreRight (cond b [] (k ∷ [])) x way goal
+    by : (b : Bool) → LinksAreRight (cond b [] (k ∷ [])) x way goal
     by true = tt
     by false = (λ is. let both = and_parts (x.edge_id == edge) (same_way (not (not w)) way) is in each (eqb-true x.edge_id edge both.0) (way_is w way both.1), tt)
 
 right_all : (ren : Dart → Dart) (hs : List HalfEdge) (ys : List Edge) (x : Edge) (way : Bool) (goal : Dart) → ((y : Edge) → Contains ys y → x.edge_id ≡ y.edge_id → (w : Bool) → w ≡ way → ren (follower hs y w) ≡ goal)
-    → AreRight (all_links ren hs ys) x way goal
+    → LinksAreRight (all_links ren hs ys) x way goal
 right_all ren hs [] x way goal each = tt
 right_all ren hs (y ∷ ys) x way goal each =
     right_append (both_links ren hs y) (all_links ren hs ys) x way goal
@@ -132,18 +115,6 @@ right_all ren hs (y ∷ ys) x way goal each =
     (right_all ren hs ys x way goal (λ z c. each z (contains_there z y ys c)))
 
 -- ---- and one that is to be set is set
-pub any_left : {X : Type 0} (p : X → Bool) (xs ys : List X) → list_any p xs ≡ true → list_any p (xs ++ ys) ≡ true
-any_left p [] ys h = absurd cc
-any_left p (x ∷ xs) ys h = by (p x) h (any_left p xs ys)
-  where
-    by : (b : Bool) → (b || list_any p xs) ≡ true → (list_any p xs ≡ true → list_any p (xs ++ ys) ≡ true) → (b || list_any p (xs ++ ys)) ≡ true
-    by true e more = refl
-    by false e more = more e
-
-pub any_right : {X : Type 0} (p : X → Bool) (xs ys : List X) → list_any p ys ≡ true → list_any p (xs ++ ys) ≡ true
-any_right p [] ys h = h
-any_right p (x ∷ xs) ys h = or_right (p x) (list_any p (xs ++ ys)) (any_right p xs ys h)
-
 any_one : (ren : Dart → Dart) (x : Edge) (way : Bool) (d : Dart) → same_dart (ren d) d ≡ false → list_any (λ j. is_of j x way) (one_link ren x.edge_id way d) ≡ true
 any_one ren x way d is = by (same_dart (ren d) d) is
   where
@@ -156,9 +127,9 @@ any_one ren x way d is = by (same_dart (ren d) d) is
 
 any_both : (ren : Dart → Dart) (hs : List HalfEdge) (x : Edge) (way : Bool) → same_dart (ren (follower hs x way)) (follower hs x way) ≡ false → list_any (λ j. is_of j x way) (both_links ren hs x) ≡ true
 any_both ren hs x true is =
-    any_left (λ j. is_of j x true) (one_link ren x.edge_id true (follower hs x true)) (one_link ren x.edge_id false (follower hs x false)) (any_one ren x true (follower hs x true) is)
+    any_more (λ j. is_of j x true) (one_link ren x.edge_id true (follower hs x true)) (one_link ren x.edge_id false (follower hs x false)) (any_one ren x true (follower hs x true) is)
 any_both ren hs x false is =
-    any_right (λ j. is_of j x false) (one_link ren x.edge_id true (follower hs x true)) (one_link ren x.edge_id false (follower hs x false)) (any_one ren x false (follower hs x false) is)
+    any_behind (λ j. is_of j x false) (one_link ren x.edge_id true (follower hs x true)) (one_link ren x.edge_id false (follower hs x false)) (any_one ren x false (follower hs x false) is)
 
 any_all : (ren : Dart → Dart) (hs : List HalfEdge) (ys : List Edge) (x : Edge) (way : Bool) → Contains ys x → same_dart (ren (follower hs x way)) (follower hs x way) ≡ false
     → list_any (λ j. is_of j x way) (all_links ren hs ys) ≡ true
@@ -166,9 +137,9 @@ any_all ren hs [] x way c is = absurd (contains_none x c)
 any_all ren hs (y ∷ ys) x way c is =
     ⊎_elim
     (λ (e : y ≡ x).
-    any_left (λ j. is_of j x way) (both_links ren hs y) (all_links ren hs ys)
+    any_more (λ j. is_of j x way) (both_links ren hs y) (all_links ren hs ys)
     (subst (λ (z : Edge). list_any (λ j. is_of j x way) (both_links ren hs z) ≡ true) (sym e) (any_both ren hs x way is)))
-    (λ (d : Contains ys x). any_right (λ j. is_of j x way) (both_links ren hs y) (all_links ren hs ys) (any_all ren hs ys x way d is))
+    (λ (d : Contains ys x). any_behind (λ j. is_of j x way) (both_links ren hs y) (all_links ren hs ys) (any_all ren hs ys x way d is))
     (contains_cases x y ys c)
 
 -- ---- the rows

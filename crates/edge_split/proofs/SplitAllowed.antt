@@ -28,15 +28,16 @@ use Rattle.drawing.proofs.TableLemmas.{list_any-map}
 use Rattle.drawing.proofs.WritesInOrder.{can_write-append}
 use Rattle.face_rings.proofs.HalfLines.{HasPlainLines}
 use Rattle.face_rings.proofs.HalvesApart.{backward_there, forward_there, half_of}
-use Rattle.ring_laws.proofs.Known.{all_out, any_in}
+use Rattle.ring_laws.proofs.Known.{all_out, any_in, any_more, any_behind}
 use Rattle.ring_laws.proofs.Turning.{next_turns}
 use Rattle.edge_links.proofs.Linking.{all_set, row_with}
 use Rattle.edge_links.proofs.Writing.{can_link}
+use Rattle.edge_links.proofs.RightUnlinks.{tables_linked}
 use Rattle.edge_split.specs.Renamed.{renamed}
 use Rattle.edge_split.specs.Splitting.{mod_edges, new_edges}
 use Rattle.edge_split.specs.Relinks.{all_relinks}
 use Rattle.edge_split.specs.Writes.{first_write, last_writes, mod_writes, new_writes}
-use Rattle.edge_split.proofs.LinkWrites.{all_set_id, any_left, any_right, follower, has_mapped, links_known, links_made, renamed_known, writes_are}
+use Rattle.edge_split.proofs.LinkWrites.{all_set_id, follower, has_mapped, links_known, renamed_known, writes_are}
 use Rattle.edge_split.proofs.SplitLinks.{IsSplitOf}
 use Rattle.edge_split.proofs.SplitRows.{mod_begun, mod_last, new_begun, row_of, set_links, with_left, with_line, with_right}
 
@@ -65,10 +66,10 @@ node_there nodes n c = any_in (λ (q : NodeRow). node_id_of q == n.node_id) node
 
 -- an edge of the drawing, among its rows and others
 old_there : (S : Drawing) (x : Edge) (more : List EdgeRow) → Contains S.edges x → list_any (λ r. edge_row_id r == x.edge_id) (map (edge_row (half_edges S)) S.edges ++ more) ≡ true
-old_there S x more c = any_left (λ r. edge_row_id r == x.edge_id) (map (edge_row (half_edges S)) S.edges) more (row_there (map (edge_row (half_edges S)) S.edges) (row_of S x) (contains-map (edge_row (half_edges S)) x S.edges c))
+old_there S x more c = any_more (λ r. edge_row_id r == x.edge_id) (map (edge_row (half_edges S)) S.edges) more (row_there (map (edge_row (half_edges S)) S.edges) (row_of S x) (contains-map (edge_row (half_edges S)) x S.edges c))
 
 more_there : (S : Drawing) (r : EdgeRow) (more : List EdgeRow) → Contains more r → list_any (λ q. edge_row_id q == r.edge_id) (map (edge_row (half_edges S)) S.edges ++ more) ≡ true
-more_there S r more c = any_right (λ q. edge_row_id q == r.edge_id) (map (edge_row (half_edges S)) S.edges) more (row_there more r c)
+more_there S r more c = any_behind (λ q. edge_row_id q == r.edge_id) (map (edge_row (half_edges S)) S.edges) more (row_there more r c)
 
 -- what follows an edge is there
 half_known : (S : Drawing) (has : ℕ → Bool) → ((x : Edge) → Contains S.edges x → has x.edge_id ≡ true) → (h : HalfEdge) → Contains (half_edges S) h → has h.edge_id ≡ true
@@ -111,7 +112,7 @@ after_links n t m id id' S last good first second each can =
     let ks = set_links S m id id' in
     let is = writes_are (renamed m id id') (half_edges S) S.edges in
     let known = links_known (renamed m id id') (half_edges S) (has_edge_row t) S.edges each (λ x way c. renamed_known m id id' (has_edge_row t) (follower (half_edges S) x way) first second (follower_known S (has_edge_row t) good each x way c)) in
-    let made = ap (all_written n t) is ∙ links_made n t ks in
+    let made = ap (all_written n t) is ∙ tables_linked n t ks in
     can_write-append n t (all_relinks (renamed m id id') (tables_of S).edges) last (subst (CanWriteAll n t) (sym is) (can_link n t ks known)) (subst (λ (u : Tables). CanWriteAll n u last) (sym made) can)
 
 -- ---- modedgesplit
@@ -124,9 +125,9 @@ mod_can S e p rows ids h known node_more edge_more =
     let t = mod_begun S e p in
     let d = follower (half_edges S) e true in
     let node : NodeRow = record { node_id = n; containing_face = None; geom = p } in
-    let new_node = any_right (λ (q : NodeRow). node_id_of q == n) S.nodes (node ∷ []) (node_there (node ∷ []) node (contains_here node [])) in
-    let start = any_left (λ (q : NodeRow). node_id_of q == e.start_node) S.nodes (node ∷ []) known.start in
-    let end = any_left (λ (q : NodeRow). node_id_of q == e.end_node) S.nodes (node ∷ []) known.end in
+    let new_node = any_behind (λ (q : NodeRow). node_id_of q == n) S.nodes (node ∷ []) (node_there (node ∷ []) node (contains_here node [])) in
+    let start = any_more (λ (q : NodeRow). node_id_of q == e.start_node) S.nodes (node ∷ []) known.start in
+    let end = any_more (λ (q : NodeRow). node_id_of q == e.end_node) S.nodes (node ∷ []) known.end in
     let was = λ (x : Edge) (c : Contains S.edges x). row_there (map (edge_row (half_edges S)) S.edges) (row_of S x) (contains-map (edge_row (half_edges S)) x S.edges c) in
     let before : Tables = written S.next_ids (tables_of S) (AddNode (Old n) None p) in
     let itself = or_left (has_edge_row before m) (m == new) (was e h.split.there) in
@@ -160,9 +161,9 @@ new_can S e p rows ids h known node_more edge_more =
     let d = follower (half_edges S) e true in
     let c = follower (half_edges S) e false in
     let node : NodeRow = record { node_id = n; containing_face = None; geom = p } in
-    let new_node = any_right (λ (q : NodeRow). node_id_of q == n) S.nodes (node ∷ []) (node_there (node ∷ []) node (contains_here node [])) in
-    let start = any_left (λ (q : NodeRow). node_id_of q == e.start_node) S.nodes (node ∷ []) known.start in
-    let end = any_left (λ (q : NodeRow). node_id_of q == e.end_node) S.nodes (node ∷ []) known.end in
+    let new_node = any_behind (λ (q : NodeRow). node_id_of q == n) S.nodes (node ∷ []) (node_there (node ∷ []) node (contains_here node [])) in
+    let start = any_more (λ (q : NodeRow). node_id_of q == e.start_node) S.nodes (node ∷ []) known.start in
+    let end = any_more (λ (q : NodeRow). node_id_of q == e.end_node) S.nodes (node ∷ []) known.end in
     let before : Tables = written S.next_ids (tables_of S) (AddNode (Old n) None p) in
     let between : Tables = written S.next_ids before (first_write (row_of S e) p n one) in
     let a = row_with (first_part e n p one) (record { edge = one; forward = true }) (record { edge = one; forward = false }) in
@@ -174,9 +175,9 @@ new_can S e p rows ids h known node_more edge_more =
     let was = λ (x : Edge) (k : Contains S.edges x). old_there S x (a ∷ []) k in
     let left = renamed_known m one two (has_edge_or_next between) d first_there second_next (or_left (has_edge_row between d.edge) (d.edge == two) (follower_known S (has_edge_row between) h.lines was e true h.split.there)) in
     let base = map (edge_row (half_edges S)) S.edges ++ a ∷ [] in
-    let has_old = λ (x : Edge) (k : Contains S.edges x). any_left (λ (q : EdgeRow). edge_row_id q == x.edge_id) base (z ∷ []) (was x k) in
-    let has_one = any_left (λ (q : EdgeRow). edge_row_id q == one) base (z ∷ []) first_came in
-    let has_two = any_right (λ (q : EdgeRow). edge_row_id q == two) base (z ∷ []) (row_there (z ∷ []) z (contains_here z [])) in
+    let has_old = λ (x : Edge) (k : Contains S.edges x). any_more (λ (q : EdgeRow). edge_row_id q == x.edge_id) base (z ∷ []) (was x k) in
+    let has_one = any_more (λ (q : EdgeRow). edge_row_id q == one) base (z ∷ []) first_came in
+    let has_two = any_behind (λ (q : EdgeRow). edge_row_id q == two) base (z ∷ []) (row_there (z ∷ []) z (contains_here z [])) in
     let ks = set_links S m one two in
     let set = map (all_set ks) t.edges in
     let on : Dart = record { edge = two; forward = true } in

@@ -11,15 +11,15 @@ use Rattle.drawing.specs.Drawing.{Drawing, Edge}
 use Rattle.drawing.specs.HalfEdge.{HalfEdge, backward_of, both_ways, dart_of, forward_of, half_edges, twin}
 use Rattle.drawing.specs.PlainInOrder.{IsPlainInOrder}
 use Rattle.drawing.specs.SplitEdge.{first_part, second_part}
-use Rattle.drawing.specs.Star.{leaving, next_of}
+use Rattle.drawing.specs.Star.{next_of}
 use Rattle.face_rings.proofs.HalfLines.{HasPlainLines}
 use Rattle.face_rings.proofs.HalvesApart.{half_of, forward_there, backward_there, one_edge, twin_back}
 use Rattle.face_rings.proofs.Ranks.{by_bool}
-use Rattle.ring_laws.proofs.Alike.{IsLike, like_self, near_alike, one_like, other_like}
+use Rattle.ring_laws.proofs.Alike.{IsLike, like_self, turns_over, like_leaves}
 use Rattle.ring_laws.proofs.Known.{none_leaves}
 use Rattle.ring_laws.proofs.KnownStays.{new_isolated}
 use Rattle.ring_laws.proofs.SplitSides.{IsSplitInto, half_there, split_with, at_new, node_of, first_like, second_like}
-use Rattle.ring_laws.proofs.Turning.{AreSpread, Turns, next_turns, spread_of, turns_next}
+use Rattle.ring_laws.proofs.Turning.{Turns, next_turns, spread_of, turns_next}
 use Rattle.ring_laws.proofs.Joint.{pair_turns}
 use Rattle.edge_split.specs.Renamed.{renamed}
 
@@ -115,29 +115,13 @@ stood_for S e p id id' fs split k ck far =
     (split.from r.edge r.there)
 
 -- ---- what is next stays next
-turns_over : (S : Drawing) (e : Edge) (p : Point) (id id' : ℕ) (fs : List Edge) (rows : List RelationRow) (ids : Counters) → IsSplitOf S e p id id' fs rows ids → (t s t' s' : HalfEdge)
+renamed_turns : (S : Drawing) (e : Edge) (p : Point) (id id' : ℕ) (fs : List Edge) (rows : List RelationRow) (ids : Counters) → IsSplitOf S e p id id' fs rows ids → (t s t' s' : HalfEdge)
     → Turns (half_edges S) t s → StandsFor S e id id' fs t t' → StandsFor S e id id' fs s s' → Turns (flat_map both_ways fs) t' s'
-turns_over S e p id id' fs rows ids h t s t' s' turn a b = record {
-  first = a.new;
-  second = b.new;
-  one_node = sym b.like.node ∙ turn.one_node ∙ a.like.node;
-  none_between = λ k ck from other.
-      let (g, c) = stood_for S e p id id' fs h.split k ck (λ q. far (sym from ∙ q)) in
-      sym (near_alike (leaving t) (leaving t') (leaving g) (leaving k) (leaving s) (leaving s') a.like.way c.like.way b.like.way)
-      ∙ turn.none_between g c.there (c.like.node ∙ from ∙ sym a.like.node) (λ q. other (other_like (flat_map both_ways fs) t k t' after ck a.new (subst (λ (z : HalfEdge). IsLike z k) q c.like) a.like));
-  alone = λ q k ck from.
-      let (g, c) = stood_for S e p id id' fs h.split k ck (λ r. far (sym from ∙ r)) in
-      let same : s ≡ t = one_like (half_edges S) s t t' before b.there a.there (subst (IsLike s) q b.like) a.like in
-      let is : g ≡ t = turn.alone same g c.there (c.like.node ∙ from ∙ sym a.like.node) in
-      other_like (flat_map both_ways fs) t k t' after ck a.new (subst (λ (z : HalfEdge). IsLike z k) is c.like) a.like;
-}
+renamed_turns S e p id id' fs rows ids h t s t' s' turn a b =
+    turns_over (half_edges S) (flat_map both_ways fs) t s t' s' (spread_of S h.lines) (spread_of (split_with S p fs rows ids) h.more) turn a.new b.new (like_leaves t t' a.like) (like_leaves s s' b.like) (λ k ck from.
+    let (g, c) = stood_for S e p id id' fs h.split k ck (λ q. far (sym from ∙ q)) in
+    (g, (c.there, like_leaves g k c.like)))
   where
-    before : AreSpread (half_edges S)
-    before = spread_of S h.lines
-
-    after : AreSpread (flat_map both_ways fs)
-    after = spread_of (split_with S p fs rows ids) h.more
-
     far : t'.from_node ≡ S.next_ids.node → ⊥
     far q = none_leaves S S.next_ids.node (new_isolated S h.ordered h.lines) t a.there (a.like.node ∙ q)
 
@@ -147,7 +131,7 @@ pub next_renamed : (S : Drawing) (e : Edge) (p : Point) (id id' : ℕ) (fs : Lis
 next_renamed S e p id id' fs rows ids g h t ch stands =
     let turn = next_turns S h g.lines ch in
     let (k, s) = stand_in S e p id id' fs g.lines g.split (next_of (half_edges S) h) turn.second in
-    ap dart_of (turns_next (split_with S p fs rows ids) t k g.more (turns_over S e p id id' fs rows ids g (twin h) (next_of (half_edges S) h) t k turn stands s)) ∙ s.name
+    ap dart_of (turns_next (split_with S p fs rows ids) t k g.more (renamed_turns S e p id id' fs rows ids g (twin h) (next_of (half_edges S) h) t k turn stands s)) ∙ s.name
 
 -- ---- at the new node
 two_there : (S : Drawing) (e : Edge) (p : Point) (id id' : ℕ) (fs : List Edge) (rows : List RelationRow) (ids : Counters) → IsSplitOf S e p id id' fs rows ids → (k : HalfEdge) → Contains (flat_map both_ways fs) k → k.from_node ≡ S.next_ids.node

@@ -24,11 +24,12 @@ use Rattle.drawing.proofs.Members.{ids_within}
 use Rattle.drawing.proofs.WritesInOrder.{written-append}
 use Rattle.face_rings.proofs.HalvesApart.{one_edge}
 use Rattle.edge_links.proofs.Linking.{Link, all_set, row_with}
+use Rattle.edge_links.proofs.RightUnlinks.{tables_linked}
 use Rattle.edge_split.specs.Renamed.{renamed}
 use Rattle.edge_split.specs.Splitting.{mod_edges, new_edges, split_mod_in, split_new_in, rows_boxed_as}
 use Rattle.edge_split.specs.Relinks.{all_relinks}
 use Rattle.edge_split.specs.Writes.{dart_named, first_write, last_writes, mod_writes, new_writes, second_write}
-use Rattle.edge_split.proofs.LinkWrites.{all_links, follower, links_made, row_kept, row_relinked, writes_are}
+use Rattle.edge_split.proofs.LinkWrites.{all_links, follower, row_kept, row_relinked, writes_are}
 use Rattle.edge_split.proofs.SplitLinks.{IsSplitOf, first_goes_back, first_goes_on, other_links, second_goes_back, second_goes_on}
 
 -- the row of an edge of the drawing
@@ -156,7 +157,7 @@ mod_written S e p rows ids h =
     (row_with (second_part e S.next_ids.node p new) (new_link S e.edge_id e.edge_id new e true) (back e.edge_id)) (second_part e S.next_ids.node p new) S.edges (mod_each S e p rows ids h) (mod_second S e p rows ids h) in
     written-append S.next_ids t (all_relinks (renamed e.edge_id e.edge_id new) (tables_of S).edges) (mod_last S e p)
     ∙ ap (λ (ws : List RowWrite). all_written S.next_ids (all_written S.next_ids t ws) (mod_last S e p)) (writes_are (renamed e.edge_id e.edge_id new) (half_edges S) S.edges)
-    ∙ ap (λ (u : Tables). all_written S.next_ids u (mod_last S e p)) (links_made S.next_ids t ks)
+    ∙ ap (λ (u : Tables). all_written S.next_ids u (mod_last S e p)) (tables_linked S.next_ids t ks)
     ∙ (λ i. record (rows_boxed_as S (split_mod_in S e p)) { edges = all i })
 
 -- ---- newedgessplit
@@ -263,6 +264,6 @@ new_written S e p rows ids h =
     let more : S.next_ids.edge + 1 + 1 ≡ S.next_ids.edge + 2 = omega arith in
     written-append S.next_ids t (all_relinks (renamed e.edge_id one two) (tables_of S).edges) last
     ∙ ap (λ (ws : List RowWrite). all_written S.next_ids (all_written S.next_ids t ws) last) (writes_are (renamed e.edge_id one two) (half_edges S) S.edges)
-    ∙ ap (λ (u : Tables). all_written S.next_ids u last) (links_made S.next_ids t ks)
+    ∙ ap (λ (u : Tables). all_written S.next_ids u last) (tables_linked S.next_ids t ks)
     ∙ (λ i. all_written S.next_ids (record t { edges = map (all_set ks) (rows_are i) }) last)
     ∙ (λ i. record (rows_boxed_as S (split_new_in S e p)) { edges = all i; next_ids = record (split_new_in S e p).next_ids { edge = more i } })

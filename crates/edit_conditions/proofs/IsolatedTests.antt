@@ -6,7 +6,7 @@ use Rattle.topo_base.specs.declared.rows.RelationRow.{RelationRow}
 use Rattle.drawing.specs.Drawing.{Drawing}
 use Rattle.drawing.specs.IsoEdits.{is_in_feature}
 use Rattle.drawing.specs.Relations.{lists_element}
-use Rattle.drawing.specs.Rows.{row_at, has_row, with_change}
+use Rattle.drawing.specs.Rows.{row_at, has_row}
 use Rattle.drawing.proofs.RowLemmas.{is_some-row_at}
 
 -- ---- whether a feature lists an element, row by row
@@ -59,14 +59,3 @@ found_id id (x ∷ rows) n r h = found_step id n r x (row_at id rows n) (eqb (id
 
 pub found_there : {R : Type 0} (id : R → ℕ) (rows : List R) (n : ℕ) (r : R) → row_at id rows n ≡ Some r → IsTrue (has_row id rows n)
 found_there id rows n r h = sym (is_some-row_at id rows n) ∙ ap is_some h
-
--- ---- a change that keeps the ids keeps which rows are there
-changed_step : {R : Type 0} (id : R → ℕ) (m : ℕ) (r s : R) (b : Bool) → id s ≡ id r → eqb (id (cond b s r)) m ≡ eqb (id r) m
-changed_step id m r s true same = ap (λ k. eqb k m) same
-changed_step id m r s false same = refl
-
-pub has_row-change : {R : Type 0} (id : R → ℕ) (rows : List R) (n m : ℕ) (change : R → R) → ((r : R) → id (change r) ≡ id r) → has_row id (with_change id rows n change) m ≡ has_row id rows m
-has_row-change id [] n m change keeps = refl
-has_row-change id (r ∷ rows) n m change keeps =
-    ap (λ b. b || has_row id (with_change id rows n change) m) (changed_step id m r (change r) (eqb (id r) n) (keeps r))
-    ∙ ap (λ b. eqb (id r) m || b) (has_row-change id rows n m change keeps)

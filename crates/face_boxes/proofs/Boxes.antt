@@ -1,5 +1,5 @@
 -- The boxes of faces where an edge comes or goes, and the writes that set them.
-use Rattle.std.proofs.Common.{◌≡◌, ℕ, ◌+◌, ◌<◌, ◌==◌, ◌||◌, List, [], ◌∷◌, ◌++◌, refl, sym, ap, ◌∙◌, subst, Option, Some, None, Bool, true, false, not, eqb, eqb-true, eq-eqb, map, filter, cond, IsTrue, arith}
+use Rattle.std.proofs.Common.{◌≡◌, ℕ, ◌+◌, ◌<◌, ◌==◌, ◌||◌, if◌then◌else◌, List, [], ◌∷◌, ◌++◌, refl, sym, ap, ◌∙◌, subst, Option, Some, None, Bool, true, false, not, eqb, eqb-true, eq-eqb, map, filter, cond, IsTrue, arith}
 use Rattle.std.specs.List.{flat_map, Contains}
 use Rattle.std.proofs.lemmas.Bool.{or_left}
 use Rattle.std.proofs.lemmas.Bool.Decides.{nat_tests}
@@ -15,13 +15,14 @@ use Rattle.topo_base.specs.declared.write.RowId.TheVariants.{Old}
 use Rattle.topo_base.specs.declared.write.RowWrite.TheVariants.{SetBox}
 use Rattle.drawing.specs.Drawing.{Drawing, Edge, edge_id_of}
 use Rattle.drawing.specs.Rows.{has_row, without_row, with_change}
-use Rattle.drawing.specs.Tables.{Tables, wider, box_at, least_box, has_side, face_box, face_row}
+use Rattle.drawing.specs.Tables.{Tables, wider, box_at, least_box, has_side, face_box, face_row, drawn, tables_of}
 use Rattle.drawing.specs.Writable.{CanWriteAll, has_face_row}
 use Rattle.drawing.specs.Writes.{all_written, face_row_id}
 use Rattle.plane.proofs.ListTests.{contains_here, contains_there}
 use Rattle.drawing.proofs.Ordering.{InOrder, first_of}
+use Rattle.drawing.proofs.TableLemmas.{drawn-tables_of}
 use Rattle.face_boxes.specs.Bounds.{grown, is_left_out, box_with, box_write, other_write, without}
-use Rattle.edit_conditions.proofs.IsolatedTests.{has_row-change}
+use Rattle.topo_tables.proofs.RowChanges.{has_changed}
 
 -- ---- boxes of more points
 pub least_more : (xs ys : List Point) → least_box (xs ++ ys) ≡ grown (least_box xs) ys
@@ -123,7 +124,7 @@ chosen_rows old new f are become = record { id = λ g. by g (eqb g f) }
     by g false = are.id g
 
 -- ---- all boxes where an edge comes
-other_way : (a b : ℕ) → eqb a b ≡ false → eqb b a ≡ false
+pub other_way : (a b : ℕ) → eqb a b ≡ false → eqb b a ≡ false
 other_way a b h = grind (arith, nat_tests)
 
 box_grows : (S T : Drawing) (e : Edge) (f : ℕ) → T.edges ≡ S.edges ++ e ∷ [] → InOrder edge_id_of 0 S.next_ids.edge S.edges → has_side f e ≡ true → eqb f 0 ≡ false
@@ -228,4 +229,11 @@ boxed_there rows f g bounds = by (eqb f 0)
   where
     by : (b : Bool) → has_row face_row_id (cond b rows (with_change face_row_id rows f (λ (r : FaceRow). record r { mbr = bounds }))) g ≡ has_row face_row_id rows g
     by true = refl
-    by false = has_row-change face_row_id rows f g (λ (r : FaceRow). record r { mbr = bounds }) (λ r. refl)
+    by false = has_changed face_row_id rows f g (λ (r : FaceRow). record r { mbr = bounds }) (λ r. refl)
+
+-- the box of a face, in the rows of a drawing
+abbrev box_among : ℕ → List Edge → Option Box4
+box_among g edges = if g == 0 then None else least_box (flat_map (λ (e : Edge). e.geom) (filter (has_side g) edges))
+
+pub same_box : (U : Drawing) (g : ℕ) → box_among g (drawn (tables_of U)).edges ≡ face_box U g
+same_box U g = ap (λ (D : Drawing). box_among g D.edges) (drawn-tables_of U)

@@ -25,7 +25,7 @@ use Rattle.drawing.proofs.Members.{ids_within}
 use Rattle.drawing.proofs.Ordering.{InOrder, InOrder-push, first_of}
 use Rattle.drawing.proofs.WritesInOrder.{can_write-append, written-append}
 use Rattle.face_boxes.specs.Bounds.{box_write}
-use Rattle.face_boxes.proofs.Boxes.{AreRows, beside_same, boxed, boxed_is, boxed_there, box_written, can_box, chosen, chosen_rows, map_same, points_of}
+use Rattle.face_boxes.proofs.Boxes.{AreRows, beside_same, boxed, boxed_is, boxed_there, box_written, can_box, chosen, chosen_rows, map_same, points_of, other_way}
 
 -- ---- edges whose sides change in one face alone
 -- the lines of the edges that have the face on a side
@@ -43,9 +43,6 @@ pub others_onward : (S T U : Drawing) (f l r : ℕ) → KeepsOthers S T f l r �
 others_onward S T U f l r first then_ = record { same = λ g a b c. then_.same g a b c ∙ first.same g a b c }
 
 -- an edge more that has the face on both sides
-pub other_way : (a b : ℕ) → eqb a b ≡ false → eqb b a ≡ false
-other_way a b h = grind (arith, nat_tests)
-
 pub others_added : (S T : Drawing) (e : Edge) (f l r : ℕ) → T.edges ≡ S.edges ++ e ∷ [] → e.left_face ≡ f → e.right_face ≡ f → KeepsOthers S T f l r
 others_added S T e f l r come left right =
     record { same = λ g a b c. ap (lines_beside g) come ∙ ap (map line_of) (beside_same g S.edges e (away g a)) }

@@ -17,7 +17,7 @@ use Rattle.plane.specs.Crossings.{back, over, over_at, crosses, crosses_at}
 use Rattle.plane.proofs.ParityStaying.{over_is, over_point_is}
 use Rattle.parity_laws.specs.Steps.{odd, above, above_at}
 use Rattle.parity_laws.specs.Rings.{those, of_face}
-use Rattle.parity_laws.proofs.Sums.{odd_append, xor_comm, summing}
+use Rattle.parity_laws.proofs.Sums.{odd_append, xor_comm, summing, xor_assoc, xor_pair}
 use Rattle.face_laws.specs.Walked.{steps_of}
 use Rattle.face_laws.proofs.LineSteps.{segments-reverse}
 use Rattle.parity_laws.specs.Coming.{walked_back}
@@ -57,10 +57,7 @@ those_append label g [] Y = refl
 those_append label g (s ∷ X) Y = by_test (label s) (those_append label g X Y)
   where
     by_test : (l : Bool) → odd g (those label (X ++ Y)) ≡ xor (odd g (those label X)) (odd g (those label Y)) → odd g (cond l (s ∷ those label (X ++ Y)) (those label (X ++ Y))) ≡ xor (odd g (cond l (s ∷ those label X) (those label X))) (odd g (those label Y))
-    by_test true e = ap (xor (g s)) e ∙ sums (g s) (odd g (those label X)) (odd g (those label Y))
-      where
-        sums : (a b c : Bool) → xor a (xor b c) ≡ xor (xor a b) c
-        sums a b c = simp summing
+    by_test true e = ap (xor (g s)) e ∙ sym (xor_assoc (g s) (odd g (those label X)) (odd g (those label Y)))
     by_test false e = e
 
 -- ---- an edge's steps both ways, and the border
@@ -109,10 +106,7 @@ border_odd F f g (e ∷ edges) gives either =
     over_others = odd g (borders f edges)
 
     by_sides : (l r : Bool) → rest ≡ over_others → xor (cond l own false) (xor (cond r own false) rest) ≡ odd g (flat_map (λ (e : Edge). segments_of e.geom) (cond (xor l r) (e ∷ others) others))
-    by_sides true true h = twice own rest ∙ h
-      where
-        twice : (a b : Bool) → xor a (xor a b) ≡ b
-        twice a b = simp summing
+    by_sides true true h = xor_pair own rest ∙ h
     by_sides true false h = ap (xor own) h ∙ sym (odd_append g (segments_of e.geom) (borders f edges))
     by_sides false true h = ap (xor own) h ∙ sym (odd_append g (segments_of e.geom) (borders f edges))
     by_sides false false h = h

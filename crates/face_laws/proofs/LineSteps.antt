@@ -3,7 +3,6 @@ use Rattle.std.proofs.Common.{◌≡◌, ◌≢◌, ℕ, zero, suc, ◌<◌, ref
 use Rattle.std.specs.Prelude.{reverse}
 use Rattle.std.specs.List.{list_all}
 use Rattle.std.proofs.lemmas.Bool.{cases_order, cases_eq}
-use Rattle.std.proofs.lemmas.Grind.{reverse_onto}
 use Rattle.std.proofs.lemmas.List.{reverse-reverse}
 use Rattle.std.proofs.lemmas.Option.{slice_get_within, slice_get-get_or}
 use Rattle.std.proofs.lemmas.Bool.Decides.{Decides-not}
@@ -25,6 +24,7 @@ use Rattle.plane.proofs.Ring.{multiplied, signed}
 use Rattle.plane.proofs.SegmentParts.{start_on, end_on}
 use Rattle.plane.proofs.SimpleTests.{before_it, first_begins}
 use Rattle.face_rings.proofs.Inside.{IsInside, inside_both}
+use Rattle.face_rings.proofs.HalfLines.{reverse_is}
 use Rattle.parity_laws.specs.Rings.{In, Once}
 use Rattle.face_laws.proofs.Lists.{once_placed}
 use Rattle.face_laws.proofs.Tying.{MeetAtEnds}
@@ -122,9 +122,6 @@ at_line_end l k s q simple e on ends =
         (cases_eq k m)
 
 -- ---- a line walked back
-
-reverse_is : (a : Point) (l : List Point) → reverse (a ∷ l) ≡ reverse l ++ a ∷ []
-reverse_is a l = reverse_onto l a []
 
 segments-push : (l : List Point) (z a : Point) → segments_of ((l ++ z ∷ []) ++ a ∷ []) ≡ segments_of (l ++ z ∷ []) ++ record { a = z; b = a } ∷ []
 segments-push [] z a = refl

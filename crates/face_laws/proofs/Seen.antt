@@ -19,7 +19,7 @@ use Rattle.plane.specs.Relation.{AreApart}
 use Rattle.plane.proofs.Collinear.{on_round}
 use Rattle.plane.specs.Crossings.{back, way, larger_spot}
 use Rattle.plane.proofs.LineTurns.{reverse_on}
-use Rattle.parity_laws.specs.Ways.{Tied, Meets, Fork}
+use Rattle.parity_laws.specs.Ways.{Tied, MeetsAtEnds, Fork}
 use Rattle.parity_laws.specs.Rings.{In, Plain, SeesLeftAt}
 use Rattle.parity_laws.proofs.Forks.{fork_only}
 use Rattle.parity_laws.proofs.Ringwise.{each_in}
@@ -84,7 +84,7 @@ own_way q m = record {
     first a b = ⊎_elim (λ (h : a <ℤ b). inl (omega (arith, signed), omega (arith, signed))) (λ (h : b ≤ℤ a). inr (h, omega (arith, signed))) (order a b)
 
 -- ---- rational points
-is_at : (p : Point) (m : RationalPoint) → SamePoint m (rational p) → IsAt p m
+pub is_at : (p : Point) (m : RationalPoint) → SamePoint m (rational p) → IsAt p m
 is_at p m h = (sym (times_one m.x) ∙ h.0, sym (times_one m.y) ∙ h.1)
 
 -- a point strictly left of a segment is none on it
@@ -115,14 +115,14 @@ pub alone_on : (S : Drawing) (d t : Segment) (m : RationalPoint) → Plain (step
 alone_on S d t m plain i j inside on =
     ⊎_elim
     (λ (h : AreApart t d). absurd (h m (on, inside.on)))
-    (λ (h : Meets d t ⊎ Meets d (back t)).
+    (λ (h : MeetsAtEnds d t ⊎ MeetsAtEnds d (back t)).
     ⊎_elim
-    (λ (k : Meets d t). ⊎_elim (λ (e : t ≡ d). inl e) (λ (no : ⊥). absurd no) (meeting t on k))
-    (λ (k : Meets d (back t)). ⊎_elim (λ (e : back t ≡ d). inr (ap back e)) (λ (no : ⊥). absurd no) (meeting (back t) (on_round t m on) k))
+    (λ (k : MeetsAtEnds d t). ⊎_elim (λ (e : t ≡ d). inl e) (λ (no : ⊥). absurd no) (meeting t on k))
+    (λ (k : MeetsAtEnds d (back t)). ⊎_elim (λ (e : back t ≡ d). inr (ap back e)) (λ (no : ⊥). absurd no) (meeting (back t) (on_round t m on) k))
     h)
     (each_in (Tied d) (steps_of S) (plain.tied d i) t j)
   where
-    meeting : (u : Segment) → IsOn m u → Meets d u → (u ≡ d) ⊎ ⊥
+    meeting : (u : Segment) → IsOn m u → MeetsAtEnds d u → (u ≡ d) ⊎ ⊥
     meeting u on k =
         ⊎_elim
         (λ (e : (u.a ≡ d.a) × (u.b ≡ d.b)). inl (λ i. record { a = e.0 i; b = e.1 i }))

@@ -9,7 +9,7 @@ use Rattle.face_rings.specs.FaceBorder.{HasRings}
 use Rattle.face_rings.proofs.FaceBorders.{has_plain_lines}
 use Rattle.parity_laws.specs.Steps.{left}
 use Rattle.parity_laws.specs.Rings.{In, Ringwise, those}
-use Rattle.parity_laws.specs.Shelling.{IsRingOf, IsShellOf}
+use Rattle.parity_laws.specs.Shelling.{IsRingLabel, IsShellOf}
 use Rattle.parity_laws.proofs.Orbits.{label_even}
 use Rattle.parity_laws.proofs.Ringwise.{side_next}
 use Rattle.parity_laws.proofs.Shells.{World}
@@ -66,7 +66,7 @@ shell_is S h s has c i = shell_at S h s has c (step_there S h s c i) (own_steps 
 pub first_on : (S : Drawing) (h : HalfEdge) → HasRings S → Contains (half_edges S) h → In (first_step h) (steps_along h)
 first_on S h has c = let (Y, e) = steps_begin S h (has_plain_lines S has) c in subst (In (first_step h)) (sym e) (inl refl)
 
-abbrev pub ring_of_label : (S : Drawing) (h : HalfEdge) → HasRings S → Contains (half_edges S) h → IsRingOf (steps_of S) (is_of (ring_of (half_edges S) h))
+abbrev pub ring_of_label : (S : Drawing) (h : HalfEdge) → HasRings S → Contains (half_edges S) h → IsRingLabel (steps_of S) (is_of (ring_of (half_edges S) h))
 ring_of_label S h has c = record {
   ringwise = ring_ringwise S h has c;
   one = ring_is_one S h has c;

@@ -30,7 +30,7 @@ same_or_not p q = by_test (same_point p q) refl
 pub one_end : (q : RationalPoint) (p r : Point) → IsAt p q → IsAt r q → p ≡ r
 one_end q p r h k = one_point p r (same_end q p r h k)
 
-at_rational : (p : Point) (q : RationalPoint) → IsAt p q → SamePoint q (rational p)
+pub at_rational : (p : Point) (q : RationalPoint) → IsAt p q → SamePoint q (rational p)
 at_rational p q h = (times_one q.x ∙ h.0, times_one q.y ∙ h.1)
 
 -- steps with one start, and two other ends

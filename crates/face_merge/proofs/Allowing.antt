@@ -17,20 +17,20 @@ use Rattle.drawing.specs.Writes.{edge_row_id, with_side, written}
 use Rattle.plane.proofs.ListTests.{contains_here, contains_there}
 use Rattle.drawing.proofs.RowLemmas.{side-id}
 use Rattle.drawing.proofs.WritesInOrder.{can_write-append}
-use Rattle.edit_conditions.proofs.IsolatedTests.{has_row-change}
 use Rattle.face_parts.proofs.Lists.{has_listed}
 use Rattle.face_merge.specs.declared.removed.Freed.{Freed}
 use Rattle.face_merge.specs.declared.removed.Removed.{Removed}
 use Rattle.face_merge.specs.MergedSides.{HasRest, IsLess}
 use Rattle.face_merge.proofs.Renaming.{sided, sides_follow}
 use Rattle.face_merge.specs.Sides.{comes_in, edge_write, freed_in, node_write, renamed_writes, set_containing, set_side, side_write}
+use Rattle.topo_tables.proofs.RowChanges.{has_changed}
 
 -- ---- sides
 abbrev AreEdges : Tables → List EdgeRow → Type 0
 AreEdges t rows = (r : EdgeRow) → Contains rows r → IsTrue (has_edge_row t r.edge_id)
 
 edges_stay : (n : Counters) (t : Tables) (hand : Hand) (kept e : ℕ) (rows : List EdgeRow) → AreEdges t rows → AreEdges (written n t (set_side hand kept e)) rows
-edges_stay n t hand kept e rows each r c = has_row-change edge_row_id t.edges e r.edge_id (with_side hand kept) (side-id hand kept) ∙ each r c
+edges_stay n t hand kept e rows each r c = has_changed edge_row_id t.edges e r.edge_id (with_side hand kept) (side-id hand kept) ∙ each r c
 
 -- a side, and more
 abbrev CanEdges : Counters → ℕ → List EdgeRow → List RowWrite → Type 0
@@ -57,7 +57,7 @@ abbrev AreNodes : Tables → List NodeRow → Type 0
 AreNodes t rows = (r : NodeRow) → Contains rows r → IsTrue (has_node_row t r.node_id)
 
 nodes_stay : (n : Counters) (t : Tables) (kept m : ℕ) (rows : List NodeRow) → AreNodes t rows → AreNodes (written n t (set_containing kept m)) rows
-nodes_stay n t kept m rows each r c = has_row-change node_id_of t.nodes m r.node_id (λ (s : NodeRow). record s { containing_face = Some kept }) (λ s. refl) ∙ each r c
+nodes_stay n t kept m rows each r c = has_changed node_id_of t.nodes m r.node_id (λ (s : NodeRow). record s { containing_face = Some kept }) (λ s. refl) ∙ each r c
 
 abbrev CanNodes : Counters → ℕ → List NodeRow → List RowWrite → Type 0
 CanNodes n kept rows ws = (t : Tables) → AreNodes t rows → IsTrue (has_face_row t kept) → CanWriteAll n t ws

@@ -20,8 +20,8 @@ use Rattle.drawing.proofs.Ordering.{InOrder}
 use Rattle.drawing.proofs.WritesInOrder.{can_write-append, written-append}
 use Rattle.edge_links.specs.UnlinksLaw.{edge_gone}
 use Rattle.face_boxes.specs.Bounds.{box_write}
-use Rattle.face_boxes.proofs.Boxes.{AreRows, beside_less, boxed, boxed_is, boxed_there, box_written, can_box, chosen, chosen_rows}
-use Rattle.face_boxes.proofs.DividedBoxes.{below_differs, line_of, lines_beside, lines_kept, listed_below, new_row, new_rows, other_way, row_beside, with_new, zero_new}
+use Rattle.face_boxes.proofs.Boxes.{AreRows, beside_less, boxed, boxed_is, boxed_there, box_written, can_box, chosen, chosen_rows, other_way}
+use Rattle.face_boxes.proofs.DividedBoxes.{below_differs, line_of, lines_beside, lines_kept, listed_below, new_row, new_rows, row_beside, with_new, zero_new}
 use Rattle.face_merge.specs.Last.{drop_face}
 use Rattle.face_merge.specs.Merge.{KeepsRows, MayGo, stay}
 

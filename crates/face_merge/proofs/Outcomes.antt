@@ -15,7 +15,8 @@ use Rattle.drawing.specs.Subdivision.{is_edge_known}
 use Rattle.drawing.specs.Tables.{Tables, face_row, tables_of}
 use Rattle.drawing.specs.Writable.{has_face_row}
 use Rattle.plane.proofs.ListTests.{contains_cases, contains_none}
-use Rattle.face_boxes.proofs.DividedBoxes.{listed_before, listed_behind, listed_first, one_is, other_way, there_in, with_new}
+use Rattle.face_boxes.proofs.DividedBoxes.{listed_before, listed_behind, listed_first, one_is, there_in, with_new}
+use Rattle.face_boxes.proofs.Boxes.{other_way}
 use Rattle.relation_rows.proofs.KnownFeatures.{references_parts}
 use Rattle.face_merge.specs.declared.removed.Removed.{Removed}
 use Rattle.face_merge.specs.Merge.{IsMerge, KeepsRows, begun, merged_in}

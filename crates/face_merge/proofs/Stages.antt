@@ -1,14 +1,11 @@
 -- Faces that become one: what the stages of the draft leave.
-use Rattle.std.proofs.Common.{◌≡◌, ℕ, ◌==◌, List, filter, IsTrue, refl, sym, ap, ◌∙◌, subst, Option, None, if◌then◌else◌}
-use Rattle.std.specs.List.{flat_map}
-use Rattle.topo_base.specs.declared.rows.Box4.{Box4}
+use Rattle.std.proofs.Common.{◌≡◌, ℕ, List, IsTrue, refl, sym, ap, ◌∙◌, subst}
 use Rattle.topo_base.specs.declared.rows.Counters.{Counters}
 use Rattle.topo_base.specs.declared.rows.FaceRow.{FaceRow}
 use Rattle.drawing.specs.Drawing.{Drawing, Edge}
-use Rattle.drawing.specs.Tables.{Tables, drawn, face_box, has_side, least_box, tables_of}
+use Rattle.drawing.specs.Tables.{Tables, drawn, face_box, tables_of}
 use Rattle.drawing.specs.Writable.{has_face_row}
 use Rattle.drawing.specs.Writes.{all_written}
-use Rattle.drawing.proofs.TableLemmas.{drawn-tables_of}
 use Rattle.relation_rows.specs.KnownRows.{KnowsRows}
 use Rattle.relation_rows.proofs.MergedInto.{knows_rows}
 use Rattle.face_merge.specs.declared.removed.Removed.{Removed}
@@ -17,6 +14,7 @@ use Rattle.face_merge.specs.Merge.{IsMerge, MayGo, begun, merged_in}
 use Rattle.face_merge.specs.MergedSides.{IsLess, with_renamed}
 use Rattle.face_merge.specs.Merging.{with_relations}
 use Rattle.face_merge.proofs.MergedBoxes.{rows_written}
+use Rattle.face_boxes.proofs.Boxes.{same_box}
 
 -- ---- the edge has gone
 pub less_of : (S : Drawing) (e : Edge) (row : ℕ → FaceRow) (fs : List ℕ) (ids : Counters) (r : Removed) (gone : List ℕ) (kept : ℕ) (t : Tables) → IsMerge S e row fs ids r gone kept t → IsLess S e r t
@@ -37,12 +35,6 @@ knows_renamed S e row fs ids r gone kept t t1 h renamed =
 -- the tables on which they are made
 abbrev pub followed : Tables → Drawing → Edge → List ℕ → ℕ → Tables
 followed t S e gone kept = with_relations (with_renamed t S e gone kept) gone kept
-
-abbrev box_among : ℕ → List Edge → Option Box4
-box_among g edges = if g == 0 then None else least_box (flat_map (λ (e : Edge). e.geom) (filter (has_side g) edges))
-
-same_box : (U : Drawing) (g : ℕ) → box_among g (drawn (tables_of U)).edges ≡ face_box U g
-same_box U g = ap (λ (D : Drawing). box_among g D.edges) (drawn-tables_of U)
 
 pub closed : (S : Drawing) (e : Edge) (row : ℕ → FaceRow) (fs : List ℕ) (ids : Counters) (r : Removed) (gone : List ℕ) (kept : ℕ) (t : Tables) → IsMerge S e row fs ids r gone kept t
     → all_written (followed t S e gone kept).next_ids (followed t S e gone kept) (last_writes (followed t S e gone kept) kept gone) ≡ tables_of (merged_in S e gone kept fs ids)

@@ -18,6 +18,7 @@ use Rattle.drawing.specs.Writable.{CanWriteAll, has_edge_row, has_face_row, has_
 use Rattle.drawing.specs.Writes.{all_written, written, edge_row_id, with_side}
 use Rattle.plane.proofs.ListTests.{contains_here, contains_there}
 use Rattle.drawing.proofs.Members.{contains-map}
+use Rattle.drawing.proofs.WritesInOrder.{can_write-append}
 use Rattle.face_rings.specs.declared.content.BorderDart.{BorderDart}
 use Rattle.face_rings.specs.Rings.{rings}
 use Rattle.face_rings.proofs.HalvesApart.{half_of}
@@ -26,13 +27,9 @@ use Rattle.face_parts.specs.Divided.{is_left_of, part_of_point, part_of_ring, di
 use Rattle.face_parts.specs.DividedFace.{HasRows, IsDividedFace, with_division}
 use Rattle.face_parts.specs.Sides.{hand_of, lies_in, set_containing, node_writes, side_writes}
 use Rattle.face_parts.proofs.Dividing.{want, half_at, moving, moving_known, named, sides_same, sides_written, divides}
-use Rattle.face_parts.proofs.Lists.{has_changed, has_listed}
+use Rattle.face_parts.proofs.Lists.{has_listed}
 use Rattle.face_parts.proofs.RingWrites.{wanted}
-
--- some writes, and then others
-can-append : (n : Counters) (t : Tables) (ws vs : List RowWrite) → CanWriteAll n t ws → CanWriteAll n (all_written n t ws) vs → CanWriteAll n t (ws ++ vs)
-can-append n t [] vs first second = second
-can-append n t (w ∷ ws) vs first second = (first.0, can-append n (written n t w) ws vs first.1 second)
+use Rattle.topo_tables.proofs.RowChanges.{has_changed}
 
 -- ---- sides
 abbrev MaySide : Tables → (Dart → ℕ) → Dart → Type 0
@@ -106,7 +103,7 @@ pub may_divide : (T : Drawing) (e : Edge) (d : Division) (parts : FaceParts) (ve
 may_divide T e d parts vertices t border n u of rows left right =
     let sides = side_writes (part_of_ring parts vertices t.edges) parts.face (rings border) in
     let nodes = node_writes (part_of_point parts vertices) parts.face t.nodes in
-    can-append n u sides nodes
+    can_write-append n u sides nodes
     (subst (CanWriteAll n u) (sym (sides_same T e d parts vertices t border of)) (can_sides n u (want T e d) (moving T d parts vertices t) dart))
     (subst (λ (v : Tables). CanWriteAll n v nodes) (sym (sides_written T e d parts vertices t border n u of rows)) (can_nodes n _ (part_of_point parts vertices) parts.face t.nodes node))
   where

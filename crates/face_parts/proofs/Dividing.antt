@@ -18,37 +18,32 @@ use Rattle.drawing.specs.Ring.{ring_of, contains_half_edge}
 use Rattle.drawing.specs.Subdivision.{begins_ring, rows_in_order}
 use Rattle.drawing.specs.Tables.{Tables, edge_row, tables_of}
 use Rattle.drawing.specs.Writes.{all_written}
-use Rattle.plane.proofs.ListTests.{contains_none, Decides-any}
+use Rattle.plane.proofs.ListTests.{contains_none}
 use Rattle.drawing.proofs.Members.{contains-mapped, contains-filtered}
 use Rattle.drawing.proofs.WritesInOrder.{written-append}
 use Rattle.face_rings.specs.declared.content.BorderDart.{BorderDart}
 use Rattle.face_rings.specs.Border.{has_dart, are_linked}
 use Rattle.face_rings.specs.Rings.{rings, ring_of as ring_of_dart}
 use Rattle.face_rings.specs.FaceBorder.{beside, border_dart, face_border, rings_beside, HasRings}
-use Rattle.face_rings.proofs.Dividing.{in_one}
+use Rattle.face_rings.proofs.Dividing.{in_one, contains_has, has_contains}
 use Rattle.face_rings.proofs.FaceBorders.{has_plain_lines, half_by_dart, in_beside, from_beside, has_half, border_linked, ring_is, rings_are as rings_are_halves}
 use Rattle.face_rings.proofs.HalvesApart.{forward_there, backward_there}
 use Rattle.face_rings.proofs.Orbits.{Has, linked_of}
-use Rattle.face_rings.proofs.Ranks.{Decides-same_dart, same_in, same_out}
+use Rattle.face_rings.proofs.Ranks.{same_in, same_out}
 use Rattle.face_rings.proofs.Reaching.{ring_known}
 use Rattle.ring_laws.proofs.DividedSides.{parts_follow}
+use Rattle.ring_laws.proofs.RingParts.{contains_darts}
 use Rattle.face_parts.specs.declared.parts.FaceParts.{FaceParts}
 use Rattle.face_parts.specs.Divided.{part_of_point, part_of_ring, division_writes}
 use Rattle.face_parts.specs.DividedFace.{HasRows, IsDividedFace, sided, with_division}
 use Rattle.face_parts.specs.Sides.{part_or, with_parts, side_writes, in_part, node_writes}
 use Rattle.face_parts.proofs.RowSides.{row_sides}
 use Rattle.face_parts.proofs.Lists.{found_one, map_agree, map_twice, gathered, gathered_from}
-use Rattle.face_parts.proofs.RingParts.{has_half_edge, point_is, part_is}
+use Rattle.face_parts.proofs.RingParts.{point_is, part_is}
 use Rattle.face_parts.proofs.RingWrites.{AreParted, moved, wanted, rings_are}
 use Rattle.face_parts.proofs.SideWrites.{all_sides, sides_follow}
 
 -- ---- darts and half-edges
-pub contains_has : (ds : List Dart) (d : Dart) → has_dart ds d ≡ true → Contains ds d
-contains_has ds d h = let f = (Decides-any (same_dart d) (λ x. d ≡ x) (Decides-same_dart d) ds).0 h in subst (Contains ds) (sym f.1.1) f.1.0
-
-pub has_contains : (ds : List Dart) (d : Dart) → Contains ds d → has_dart ds d ≡ true
-has_contains ds d c = (Decides-any (same_dart d) (λ x. d ≡ x) (Decides-same_dart d) ds).1 (d, (c, refl))
-
 -- the half-edge that a dart of the border names
 pub record IsNamed (T : Drawing) (f : ℕ) (x : Dart) : Type 0 where
   pub half : HalfEdge
@@ -114,7 +109,7 @@ parted T e d parts vertices t border of = record { each = each }
         let r = among T d.face ring of.rings c in
         let n = named T d.face x (in_border T d.face ring x of.rings r k) in
         let inside : contains_half_edge (ring_of hs r.half) n.half ≡ true =
-        sym (has_half_edge (ring_of hs r.half) n.half)
+        sym (contains_darts (ring_of hs r.half) n.half)
         ∙ has_contains (map dart_of (ring_of hs r.half)) (dart_of n.half) (subst (λ (ds : List Dart). Contains ds (dart_of n.half)) (sym r.is) (subst (Contains ring) (sym n.dart) k)) in
         ap (want T e d) (sym n.dart)
         ∙ want_is T e d n.half of.rings n.there

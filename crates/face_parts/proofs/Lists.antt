@@ -1,10 +1,10 @@
 -- Lists: the one element that meets a test, the rows after a change, and darts that are gathered.
-use Rattle.std.proofs.Common.{◌≡◌, ℕ, refl, sym, ◌∙◌, ap, subst, ⊎_elim, Bool, true, false, cond, ◌||◌, eqb, eq-eqb, List, [], ◌∷◌, map, Some}
+use Rattle.std.proofs.Common.{◌≡◌, ℕ, refl, sym, ◌∙◌, ap, subst, ⊎_elim, Bool, true, false, cond, eqb, eq-eqb, List, [], ◌∷◌, map, Some}
 use Rattle.std.specs.Prelude.{find, flat_map}
 use Rattle.std.specs.List.{Contains}
 use Rattle.std.proofs.lemmas.Bool.{false≢true, or_left, or_right}
 use Rattle.std.proofs.lemmas.List.Elements.{Contains-append_left, Contains-append_right, Contains-append_cases}
-use Rattle.drawing.specs.Rows.{has_row, with_change}
+use Rattle.drawing.specs.Rows.{has_row}
 use Rattle.plane.proofs.ListTests.{contains_here, contains_there, contains_cases, contains_none}
 
 -- the one element that meets a test is found
@@ -41,17 +41,6 @@ gathered_from {X = X} {A = A} g (y ∷ xs) a c =
     (λ (k : Contains (g y) a). (y, (contains_here y xs, k)))
     (λ (k : Contains (flat_map g xs) a). let (x, (m, d)) = gathered_from g xs a k in (x, (contains_there x y xs m, d)))
     (Contains-append_cases (g y) (flat_map g xs) a c)
-
--- a change that keeps the ids keeps which rows are there
-changed_id : {R : Type 0} (id : R → ℕ) (m : ℕ) (r s : R) (b : Bool) → id s ≡ id r → eqb (id (cond b s r)) m ≡ eqb (id r) m
-changed_id id m r s true same = ap (λ k. eqb k m) same
-changed_id id m r s false same = refl
-
-pub has_changed : {R : Type 0} (id : R → ℕ) (rows : List R) (n m : ℕ) (change : R → R) → ((r : R) → id (change r) ≡ id r) → has_row id (with_change id rows n change) m ≡ has_row id rows m
-has_changed id [] n m change keeps = refl
-has_changed id (r ∷ rows) n m change keeps =
-    ap (λ b. b || has_row id (with_change id rows n change) m) (changed_id id m r (change r) (eqb (id r) n) (keeps r))
-    ∙ ap (λ b. eqb (id r) m || b) (has_changed id rows n m change keeps)
 
 pub has_listed : {R : Type 0} (id : R → ℕ) (rows : List R) (r : R) → Contains rows r → has_row id rows (id r) ≡ true
 has_listed id [] r c = absurd (contains_none r c)

@@ -1,5 +1,5 @@
 -- The part of a ring of rows is that of the half-edges of the ring.
-use Rattle.std.proofs.Common.{◌≡◌, ℕ, zero, suc, refl, sym, ◌∙◌, ap, subst, ⊎_elim, Bool, true, false, not, cond, ◌==◌, ◌||◌, eqb-true, eq-eqb, List, [], ◌∷◌, length, map, Some}
+use Rattle.std.proofs.Common.{◌≡◌, ℕ, refl, sym, ◌∙◌, ap, subst, ⊎_elim, Bool, true, false, not, cond, ◌==◌, eqb-true, eq-eqb, List, [], ◌∷◌, length, map, Some}
 use Rattle.std.specs.Prelude.{fold, option_map}
 use Rattle.std.specs.List.{Contains, list_all}
 use Rattle.std.proofs.lemmas.Bool.{and_parts, false≢true}
@@ -8,12 +8,11 @@ use Rattle.topo_base.specs.declared.rows.EdgeRow.{EdgeRow}
 use Rattle.drawing.specs.AddEdge.{Division, is_on_left, part_at, part_beside}
 use Rattle.drawing.specs.Drawing.{Drawing, Edge}
 use Rattle.plane.specs.Parity.{xor, is_odd_over}
-use Rattle.drawing.specs.HalfEdge.{HalfEdge, forward_of, backward_of, half_edges, same_half_edge, comes_before, dart_of}
+use Rattle.drawing.specs.HalfEdge.{HalfEdge, forward_of, backward_of, half_edges, comes_before, dart_of}
 use Rattle.plane.specs.Line.{first_vertex}
-use Rattle.drawing.specs.Ring.{walk, ring_of, contains_half_edge, earlier_of, least_vertex, ring_segments}
+use Rattle.drawing.specs.Ring.{ring_of, contains_half_edge, earlier_of, least_vertex, ring_segments}
 use Rattle.plane.specs.ClosedWalk.{closed_segments, is_hole_walk}
 use Rattle.drawing.specs.Rows.{row_at}
-use Rattle.drawing.specs.Star.{next_of}
 use Rattle.drawing.specs.Subdivision.{begins_ring}
 use Rattle.drawing.specs.Tables.{Tables, edge_row, tables_of}
 use Rattle.drawing.specs.Writes.{edge_row_id}
@@ -27,7 +26,7 @@ use Rattle.face_rings.proofs.HalfLines.{HasPlainLines}
 use Rattle.face_rings.proofs.HalvesApart.{half_of, one_edge, forward_there, backward_there}
 use Rattle.face_rings.proofs.Orbits.{linked_of}
 use Rattle.face_rings.proofs.Reaching.{reaches_back, in_ring, from_ring}
-use Rattle.ring_laws.proofs.RingParts.{IsStep, ring_has}
+use Rattle.ring_laws.proofs.RingParts.{IsStep, ring_has, contains_darts, walk_begins}
 use Rattle.ring_laws.proofs.Turning.{same_test}
 use Rattle.face_parts.specs.declared.parts.FaceParts.{FaceParts}
 use Rattle.face_parts.specs.Divided.{is_left_of, part_of_point, vertex_along, start_of, start_of_ring, part_of_start, part_of_ring}
@@ -45,14 +44,6 @@ pub point_is : (T : Drawing) (e : Edge) (d : Division) (parts : FaceParts) (vert
 point_is T e d parts vertices t border p of = λ i. cond (left_is d.left_ring vertices p of.cut i) (of.left_part i) (of.right_part i)
 
 -- ---- where a ring begins
-pub walk_begins : (hs : List HalfEdge) (first h : HalfEdge) (n : ℕ) → (rest : List HalfEdge) × (walk hs first n h ≡ h ∷ rest)
-walk_begins hs first h zero = ([], refl)
-walk_begins hs first h (suc n) = by (same_half_edge (next_of hs h) first)
-  where
-    by : (b : Bool) → (rest : List HalfEdge) × (cond b (h ∷ []) (h ∷ walk hs first n (next_of hs h)) ≡ h ∷ rest)
-    by true = ([], refl)
-    by false = (walk hs first n (next_of hs h), refl)
-
 first_stays : (h : HalfEdge) (ring : List HalfEdge) → list_all (λ k. not (comes_before k h)) ring ≡ true → fold earlier_of h ring ≡ h
 first_stays h [] all = refl
 first_stays h (k ∷ ring) all =
@@ -91,10 +82,6 @@ start_is T h good c =
     r.way
 
 -- ---- a ring that has one has the other
-pub has_half_edge : (ring : List HalfEdge) (h : HalfEdge) → has_dart (map dart_of ring) (dart_of h) ≡ contains_half_edge ring h
-has_half_edge [] h = refl
-has_half_edge (k ∷ ring) h = ap (λ b. same_half_edge h k || b) (has_half_edge ring h)
-
 either_ring : (T : Drawing) (f : ℕ) (g h : HalfEdge) → IsStep T f g → IsStep T f h → contains_half_edge (ring_of (half_edges T) g) h ≡ true → contains_half_edge (ring_of (half_edges T) h) g ≡ true
 either_ring T f g h sg sh inside =
     let border = face_border (half_edges T) f in
@@ -105,7 +92,7 @@ either_ring T f g h sg sh inside =
 
 rings_agree : (T : Drawing) (f : ℕ) (g h : HalfEdge) → IsStep T f g → IsStep T f h → has_dart (map dart_of (ring_of (half_edges T) h)) (dart_of g) ≡ contains_half_edge (ring_of (half_edges T) g) h
 rings_agree T f g h sg sh =
-    has_half_edge (ring_of (half_edges T) h) g
+    contains_darts (ring_of (half_edges T) h) g
     ∙ same_test (contains_half_edge (ring_of (half_edges T) h) g) (contains_half_edge (ring_of (half_edges T) g) h) (either_ring T f h g sh sg) (either_ring T f g h sg sh)
 
 -- ---- the part of a ring

@@ -1,11 +1,11 @@
 -- Lists of vertices without the last, one behind the other.
 use Rattle.std.proofs.Common.{◌≡◌, suc, ◌-◌, List, [], ◌∷◌, ◌++◌, length, take, drop, refl, sym, ap, ◌∙◌, arith}
 use Rattle.std.specs.Prelude.{reverse}
-use Rattle.std.proofs.lemmas.Grind.{reverse_onto}
 use Rattle.topo_base.specs.Point.{Point}
 use Rattle.plane.specs.Line.{segments_of, last_vertex}
 use Rattle.plane.proofs.SegmentParts.{segment}
 use Rattle.face_parts.specs.Paths.{without_last}
+use Rattle.face_rings.proofs.HalfLines.{reverse_is}
 
 -- all but the last of a line are so many of its first, and of the line walked back all but its first
 pub front_is : (l : List Point) → take (length l - 1) l ≡ without_last l
@@ -14,9 +14,6 @@ front_is (p ∷ []) = refl
 front_is (p ∷ q ∷ ps) =
     let count : length (p ∷ q ∷ ps) - 1 ≡ suc (length (q ∷ ps) - 1) = omega arith in
     ap (λ n. take n (p ∷ q ∷ ps)) count ∙ ap (λ l. p ∷ l) (front_is (q ∷ ps))
-
-reverse_is : (a : Point) (l : List Point) → reverse (a ∷ l) ≡ reverse l ++ a ∷ []
-reverse_is a l = reverse_onto l a []
 
 without-push : (l : List Point) (a : Point) → without_last (l ++ a ∷ []) ≡ l
 without-push [] a = refl

@@ -12,7 +12,7 @@ use Rattle.face_rings.specs.Border.{darts_of, has_dart, next_dart, are_linked}
 use Rattle.face_rings.specs.Rings.{walk, ring_of, begins_ring, rings}
 use Rattle.face_rings.specs.RingLaw.{IsRingFrom, IsInOne, RingsDivide}
 use Rattle.face_rings.proofs.Ranks.{by_bool, rank, before_in, before_no, rank_same, same_out, same_in, same_self, Decides-same_dart}
-use Rattle.face_rings.proofs.Orbits.{Has, IsLinked, linked_of, after, cancel, ComesBack, comes_back}
+use Rattle.face_rings.proofs.Orbits.{Has, IsLinkedBorder, linked_of, after, cancel, ComesBack, comes_back}
 use Rattle.face_rings.proofs.Reaching.{Reaches, reaches_self, reaches_on, reaches_back, reaches_known, after_inner, walk_last, walk_more, has_cases, in_ring, from_ring, begins, begins_not}
 
 -- ---- the places of a walk
@@ -54,7 +54,7 @@ walk_places border first d (suc n) (suc j) w r =
     }))))
     (by_bool (same_dart (next_dart border d) first))
 
-ring_places : (border : List BorderDart) (d : Dart) (j : ℕ) (ring : List Dart) → IsLinked border → Has border d → Returns border d d j → HasPlaces border d j ring → IsRingFrom border d ring
+ring_places : (border : List BorderDart) (d : Dart) (j : ℕ) (ring : List Dart) → IsLinkedBorder border → Has border d → Returns border d d j → HasPlaces border d j ring → IsRingFrom border d ring
 ring_places border d j ring linked h r p =
     let long = p.long in
     record {
@@ -81,7 +81,7 @@ ring_places border d j ring linked h r p =
 pub ring_is_ring : (border : List BorderDart) (d : Dart) → IsTrue (are_linked border) → Has border d → IsRingFrom border d (ring_of border d)
 ring_is_ring border d links h = by_steps back.steps back.some back.few back.is back.first
   where
-    linked : IsLinked border
+    linked : IsLinkedBorder border
     linked = linked_of border links
 
     back : ComesBack border d
@@ -129,14 +129,14 @@ least_among : (ds : List Dart) (d : Dart) → has_dart ds d ≡ true → (e : Da
 least_among [] d h = absurd (false≢true h)
 least_among (c ∷ ds) d h = least_of c ds
 
-contains_has : (ds : List Dart) (d : Dart) → has_dart ds d ≡ true → Contains ds d
+pub contains_has : (ds : List Dart) (d : Dart) → has_dart ds d ≡ true → Contains ds d
 contains_has ds d h = let f = (Decides-any (same_dart d) (λ x. d ≡ x) (Decides-same_dart d) ds).0 h in subst (Contains ds) (sym f.1.1) f.1.0
 
-has_contains : (ds : List Dart) (d : Dart) → Contains ds d → has_dart ds d ≡ true
+pub has_contains : (ds : List Dart) (d : Dart) → Contains ds d → has_dart ds d ≡ true
 has_contains ds d c = (Decides-any (same_dart d) (λ x. d ≡ x) (Decides-same_dart d) ds).1 (d, (c, refl))
 
 -- two that reach one another and begin rings are one
-one_beginning : (border : List BorderDart) (c e : Dart) → IsLinked border → Has border c → Has border e → Reaches border c e → begins_ring border c ≡ true → begins_ring border e ≡ true → c ≡ e
+one_beginning : (border : List BorderDart) (c e : Dart) → IsLinkedBorder border → Has border c → Has border e → Reaches border c e → begins_ring border c ≡ true → begins_ring border e ≡ true → c ≡ e
 one_beginning border c e linked hc he reach bc be =
     ⊎_elim
     (λ (p : rank c ≡ rank e). rank_same c e p)

@@ -61,7 +61,7 @@ inner_not_last a b rest q simple in_it at =
     in_it.not_end (subst (λ (s : Segment). IsAt s.b q) (sym same) at_end)
 
 -- ---- the last segment of a line is the first of it walked back
-reverse_is : (a : Point) (l : List Point) → reverse (a ∷ l) ≡ reverse l ++ a ∷ []
+pub reverse_is : (a : Point) (l : List Point) → reverse (a ∷ l) ≡ reverse l ++ a ∷ []
 reverse_is a l = reverse_onto l a []
 
 segments-push : (l : List Point) (z a : Point) → segments_of ((l ++ z ∷ []) ++ a ∷ []) ≡ segments_of (l ++ z ∷ []) ++ segment z a ∷ []

@@ -13,7 +13,7 @@ use Rattle.face_rings.specs.declared.content.BorderDart.{BorderDart}
 use Rattle.face_rings.specs.Border.{dart_before, darts_ascend, darts_of, has_dart}
 use Rattle.face_rings.specs.Rings.{ring_of, begins_ring, rings, Marks}
 use Rattle.face_rings.proofs.Ranks.{rank, same_in, not_same, before_out, before_in, ranks_ascend, place_less, place_same}
-use Rattle.face_rings.proofs.Orbits.{Has, IsLinked}
+use Rattle.face_rings.proofs.Orbits.{Has, IsLinkedBorder}
 use Rattle.face_rings.proofs.Reaching.{Reaches, reaches_on, reaches_back, reaches_known, in_ring, from_ring, begins, begins_not}
 
 -- ---- marking the darts of one ring
@@ -67,7 +67,7 @@ has_at border i b w =
     subst (Has border) (get_or-map (λ (c : BorderDart). c.dart) border i b b.dart w) (Contains-get_or (darts_of border) i b.dart (omega arith))
 
 -- a dart whose place is marked begins no ring
-seen_begins : (border : List BorderDart) (n : ℕ) (seen : List Bool) (b : BorderDart) → IsLinked border → darts_ascend border ≡ true → IsSeen border n seen → n < length border → get_or seen n false ≡ true → begins_ring border (dart_at border n b) ≡ false
+seen_begins : (border : List BorderDart) (n : ℕ) (seen : List Bool) (b : BorderDart) → IsLinkedBorder border → darts_ascend border ≡ true → IsSeen border n seen → n < length border → get_or seen n false ≡ true → begins_ring border (dart_at border n b) ≡ false
 seen_begins border n seen b linked up s w on =
     let one = s.only n b w on in
     let j = one.0 in
@@ -77,7 +77,7 @@ seen_begins border n seen b linked up s w on =
     (before_in (dart_at border j b) (dart_at border n b) less)
 
 -- a dart whose place is not marked begins one
-new_begins : (border : List BorderDart) (n : ℕ) (seen : List Bool) (b : BorderDart) → IsLinked border → darts_ascend border ≡ true → IsSeen border n seen → n < length border → get_or seen n false ≡ false → begins_ring border (dart_at border n b) ≡ true
+new_begins : (border : List BorderDart) (n : ℕ) (seen : List Bool) (b : BorderDart) → IsLinkedBorder border → darts_ascend border ≡ true → IsSeen border n seen → n < length border → get_or seen n false ≡ false → begins_ring border (dart_at border n b) ≡ true
 new_begins border n seen b linked up s w off = begins border here (λ e reach. before_none e reach)
   where
     here : Dart
@@ -114,7 +114,7 @@ seen_kept border n seen s w on = record {
         let one = s.only n b w on in
         s.all i one.0 b v one.1.0 (reaches_on border (dart_at border one.0 b) (dart_at border n b) (dart_at border i b) one.1.1 reach)
 
-pub seen_more : (border : List BorderDart) (n : ℕ) (seen new : List Bool) (ring : List Dart) (d : Dart) → IsLinked border → IsSeen border n seen → n < length border → ((b : BorderDart) → dart_at border n b ≡ d) → ring ≡ ring_of border d → Marks border ring seen new → IsSeen border (n + 1) new
+pub seen_more : (border : List BorderDart) (n : ℕ) (seen new : List Bool) (ring : List Dart) (d : Dart) → IsLinkedBorder border → IsSeen border n seen → n < length border → ((b : BorderDart) → dart_at border n b ≡ d) → ring ≡ ring_of border d → Marks border ring seen new → IsSeen border (n + 1) new
 seen_more border n seen new ring d linked s w at is m = record {
   long = m.long ∙ s.long;
   only = λ i b v marked. by_mark i b v (or_cases (get_or seen i false) (has_dart ring (dart_at border i b)) (sym (m.marked i b v) ∙ marked));
@@ -150,13 +150,13 @@ rings_step border n d w at =
     ∙ ap (λ (x : Dart). filter (begins_ring border) (take n (darts_of border)) ++ cond (begins_ring border x) (x ∷ []) []) read)
     ∙ map-append (ring_of border) (filter (begins_ring border) (take n (darts_of border))) (cond (begins_ring border d) (d ∷ []) [])
 
-pub rings_kept : (border : List BorderDart) (n : ℕ) (seen : List Bool) (d : Dart) → IsLinked border → darts_ascend border ≡ true → IsSeen border n seen → n < length border → ((b : BorderDart) → dart_at border n b ≡ d) → get_or seen n false ≡ true → rings_to border (n + 1) ≡ rings_to border n
+pub rings_kept : (border : List BorderDart) (n : ℕ) (seen : List Bool) (d : Dart) → IsLinkedBorder border → darts_ascend border ≡ true → IsSeen border n seen → n < length border → ((b : BorderDart) → dart_at border n b ≡ d) → get_or seen n false ≡ true → rings_to border (n + 1) ≡ rings_to border n
 rings_kept border n seen d linked up s w at on =
     let b : BorderDart = record { dart = d; next = d } in
     let none : begins_ring border d ≡ false = ap (begins_ring border) (sym (at b)) ∙ seen_begins border n seen b linked up s w on in
     rings_step border n d w at ∙ ap (λ (t : Bool). rings_to border n ++ map (ring_of border) (cond t (d ∷ []) [])) none ∙ append-nil (rings_to border n)
 
-pub rings_more : (border : List BorderDart) (n : ℕ) (seen : List Bool) (d : Dart) → IsLinked border → darts_ascend border ≡ true → IsSeen border n seen → n < length border → ((b : BorderDart) → dart_at border n b ≡ d) → get_or seen n false ≡ false → rings_to border (n + 1) ≡ rings_to border n ++ ring_of border d ∷ []
+pub rings_more : (border : List BorderDart) (n : ℕ) (seen : List Bool) (d : Dart) → IsLinkedBorder border → darts_ascend border ≡ true → IsSeen border n seen → n < length border → ((b : BorderDart) → dart_at border n b ≡ d) → get_or seen n false ≡ false → rings_to border (n + 1) ≡ rings_to border n ++ ring_of border d ∷ []
 rings_more border n seen d linked up s w at off =
     let b : BorderDart = record { dart = d; next = d } in
     let some : begins_ring border d ≡ true = ap (begins_ring border) (sym (at b)) ∙ new_begins border n seen b linked up s w off in
@@ -177,7 +177,7 @@ known_read border bs n x same w = subst (λ (ys : List BorderDart). Has ys (dart
 no_dart : BorderDart
 no_dart = let d : Dart = record { edge = 0; forward = true } in record { dart = d; next = d }
 
-pub kept_at : (border : List BorderDart) (n : ℕ) (seen : List Bool) → IsLinked border → darts_ascend border ≡ true → IsSeen border n seen → n < length border → get_or seen n false ≡ true → rings_to border (n + 1) ≡ rings_to border n
+pub kept_at : (border : List BorderDart) (n : ℕ) (seen : List Bool) → IsLinkedBorder border → darts_ascend border ≡ true → IsSeen border n seen → n < length border → get_or seen n false ≡ true → rings_to border (n + 1) ≡ rings_to border n
 kept_at border n seen linked up s w on =
     rings_kept border n seen (dart_at border n no_dart) linked up s w (λ b. ap (λ (c : BorderDart). c.dart) (get_or_default border n b no_dart w)) on
 

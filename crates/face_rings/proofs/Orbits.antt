@@ -20,7 +20,7 @@ abbrev pub Has : List BorderDart → Dart → Type 0
 Has border d = Contains (darts_of border) d
 
 -- ---- the condition
-pub record IsLinked (border : List BorderDart) : Type 0 where
+pub record IsLinkedBorder (border : List BorderDart) : Type 0 where
   -- each next dart is one of the border
   pub known : (b : BorderDart) → Contains border b → Has border b.next
   -- no two darts have the same next dart
@@ -44,7 +44,7 @@ Decides-differ (b ∷ border) =
     Decides-like (not (list_any test border)) (λ f. λ c k s. f (c, (k, s))) (λ f. λ s. f s.0 s.1.0 s.1.1) none in
     Decides-and (not (list_any test border)) (nexts_differ border) each (Decides-differ border)
 
-pub linked_of : (border : List BorderDart) → IsTrue (are_linked border) → IsLinked border
+pub linked_of : (border : List BorderDart) → IsTrue (are_linked border) → IsLinkedBorder border
 linked_of border h =
     let parts = and_parts (list_all (λ (b : BorderDart). has_dart (darts_of border) b.next) border) (nexts_differ border) h in
     let known = (Decides-all (λ (b : BorderDart). has_dart (darts_of border) b.next) (λ (b : BorderDart). Has border b.next) (λ b. Decides-has border b.next) border).0 parts.0 in
@@ -77,12 +77,12 @@ next_found (b ∷ border) d h =
     record { one = rest.one; there = contains_there rest.one b border rest.there; dart = rest.dart; next = next_there b border d e ∙ rest.next })
     (by_bool (same_dart b.dart d))
 
-pub next_known : (border : List BorderDart) (d : Dart) → IsLinked border → Has border d → Has border (next_dart border d)
+pub next_known : (border : List BorderDart) (d : Dart) → IsLinkedBorder border → Has border d → Has border (next_dart border d)
 next_known border d linked h =
     let f = next_found border d h in
     subst (Has border) (sym f.next) (linked.known f.one f.there)
 
-pub next_apart : (border : List BorderDart) (d e : Dart) → IsLinked border → Has border d → Has border e → next_dart border d ≡ next_dart border e → d ≡ e
+pub next_apart : (border : List BorderDart) (d e : Dart) → IsLinkedBorder border → Has border d → Has border e → next_dart border d ≡ next_dart border e → d ≡ e
 next_apart border d e linked h k same =
     let f = next_found border d h in
     let g = next_found border e k in
@@ -93,7 +93,7 @@ abbrev pub after : List BorderDart → ℕ → Dart → Dart
 after border zero d = d
 after border (suc k) d = next_dart border (after border k d)
 
-pub after_known : (border : List BorderDart) (k : ℕ) (d : Dart) → IsLinked border → Has border d → Has border (after border k d)
+pub after_known : (border : List BorderDart) (k : ℕ) (d : Dart) → IsLinkedBorder border → Has border d → Has border (after border k d)
 after_known border zero d linked h = h
 after_known border (suc k) d linked h = next_known border (after border k d) linked (after_known border k d linked h)
 
@@ -104,7 +104,7 @@ after-add border (suc j) k d =
     ap (λ (n : ℕ). after border n d) e ∙ ap (next_dart border) (after-add border j k d)
 
 -- where two are the same, so is the first with one
-pub cancel : (border : List BorderDart) (i m : ℕ) (d : Dart) → IsLinked border → Has border d → after border i d ≡ after border (i + m) d → d ≡ after border m d
+pub cancel : (border : List BorderDart) (i m : ℕ) (d : Dart) → IsLinkedBorder border → Has border d → after border i d ≡ after border (i + m) d → d ≡ after border m d
 cancel border zero m d linked h e = let n : zero + m ≡ m = omega arith in e ∙ ap (λ (k : ℕ). after border k d) n
 cancel border (suc i) m d linked h e =
     let n : suc i + m ≡ suc (i + m) = omega arith in
@@ -132,7 +132,7 @@ orbit_distinct border (suc n) d apart = (
   orbit_distinct border n d (λ i j l w. apart i j l (omega arith)),
 )
 
-orbit_known : (border : List BorderDart) (n : ℕ) (d q : Dart) → IsLinked border → Has border d → list_any (same_dart q) (orbit border n d) ≡ true → list_any (same_dart q) (darts_of border) ≡ true
+orbit_known : (border : List BorderDart) (n : ℕ) (d q : Dart) → IsLinkedBorder border → Has border d → list_any (same_dart q) (orbit border n d) ≡ true → list_any (same_dart q) (darts_of border) ≡ true
 orbit_known border zero d q linked h m = absurd (false≢true m)
 orbit_known border (suc n) d q linked h m =
     ⊎_elim
@@ -142,7 +142,7 @@ orbit_known border (suc n) d q linked h m =
     (or_cases (same_dart q (after border n d)) (list_any (same_dart q) (orbit border n d)) m)
 
 -- as many darts as the border has come before the first comes back
-pub bounded : (border : List BorderDart) (n : ℕ) (d : Dart) → IsLinked border → Has border d → ((j : ℕ) → 0 < j → j < n → after border j d ≡ d → ⊥) → n ≤ length border
+pub bounded : (border : List BorderDart) (n : ℕ) (d : Dart) → IsLinkedBorder border → Has border d → ((j : ℕ) → 0 < j → j < n → after border j d ≡ d → ⊥) → n ≤ length border
 bounded border n d linked h away =
     let few = length-le_from_is_member same_dart_laws (orbit border n d) (darts_of border)
     (orbit_distinct border n d
@@ -181,7 +181,7 @@ seek border (suc n) d w =
     last : (j n : ℕ) → j < suc n → (j ≡ n) ⊎ (j < n)
     last j n h = grind arith
 
-pub comes_back : (border : List BorderDart) (d : Dart) → IsLinked border → Has border d → ComesBack border d
+pub comes_back : (border : List BorderDart) (d : Dart) → IsLinkedBorder border → Has border d → ComesBack border d
 comes_back border d linked h =
     ⊎_elim
     (λ (back : ComesBack border d). back)

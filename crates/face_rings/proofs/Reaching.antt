@@ -10,7 +10,7 @@ use Rattle.face_rings.specs.declared.content.BorderDart.{BorderDart}
 use Rattle.face_rings.specs.Border.{dart_before, has_dart, next_dart}
 use Rattle.face_rings.specs.Rings.{walk, ring_of, begins_ring}
 use Rattle.face_rings.proofs.Ranks.{by_bool, same_out, same_in, same_self}
-use Rattle.face_rings.proofs.Orbits.{Has, IsLinked, next_known, after, after-add, after_known, ComesBack, comes_back}
+use Rattle.face_rings.proofs.Orbits.{Has, IsLinkedBorder, next_known, after, after-add, after_known, ComesBack, comes_back}
 
 -- ---- reaching
 abbrev pub Reaches : List BorderDart → Dart → Dart → Type 0
@@ -26,7 +26,7 @@ pub after_inner : (border : List BorderDart) (k : ℕ) (d : Dart) → after bord
 after_inner border zero d = refl
 after_inner border (suc k) d = ap (next_dart border) (after_inner border k d)
 
-back_one : (border : List BorderDart) (d : Dart) → IsLinked border → Has border d → Reaches border (next_dart border d) d
+back_one : (border : List BorderDart) (d : Dart) → IsLinkedBorder border → Has border d → Reaches border (next_dart border d) d
 back_one border d linked h = by_steps (back.steps) back.some back.is
   where
     back : ComesBack border d
@@ -36,13 +36,13 @@ back_one border d linked h = by_steps (back.steps) back.some back.is
     by_steps zero some is = absurd (omega arith)
     by_steps (suc n) some is = (n, after_inner border n d ∙ is)
 
-after_back : (border : List BorderDart) (k : ℕ) (d : Dart) → IsLinked border → Has border d → Reaches border (after border k d) d
+after_back : (border : List BorderDart) (k : ℕ) (d : Dart) → IsLinkedBorder border → Has border d → Reaches border (after border k d) d
 after_back border zero d linked h = (0, refl)
 after_back border (suc k) d linked h =
     reaches_on border (next_dart border (after border k d)) (after border k d) d
     (back_one border (after border k d) linked (after_known border k d linked h)) (after_back border k d linked h)
 
-pub reaches_back : (border : List BorderDart) (d e : Dart) → IsLinked border → Has border d → Reaches border d e → Reaches border e d
+pub reaches_back : (border : List BorderDart) (d e : Dart) → IsLinkedBorder border → Has border d → Reaches border d e → Reaches border e d
 reaches_back border d e linked h (k, p) = subst (λ (x : Dart). Reaches border x d) p (after_back border k d linked h)
 
 -- ---- a walk, by its first dart and the rest
@@ -107,7 +107,7 @@ walk_closed border first d e (suc n) j w back h =
     rest (suc j) w back t k onward = onward j (omega arith) (after_inner border (suc j) d ∙ back)
 
 -- ---- the ring
-pub ring_closed : (border : List BorderDart) (d e : Dart) → IsLinked border → Has border d → has_dart (ring_of border d) e ≡ true → has_dart (ring_of border d) (next_dart border e) ≡ true
+pub ring_closed : (border : List BorderDart) (d e : Dart) → IsLinkedBorder border → Has border d → has_dart (ring_of border d) e ≡ true → has_dart (ring_of border d) (next_dart border e) ≡ true
 ring_closed border d e linked h there = by_steps back.steps back.some back.few back.is
   where
     back : ComesBack border d
@@ -121,21 +121,21 @@ ring_closed border d e linked h there = by_steps back.steps back.some back.few b
         (λ (p : next_dart border e ≡ d). subst (λ (x : Dart). has_dart (ring_of border d) x ≡ true) (sym p) (walk_head border d d (length border)))
         (walk_closed border d d e (length border) n (omega arith) is there)
 
-after_in_ring : (border : List BorderDart) (k : ℕ) (d : Dart) → IsLinked border → Has border d → has_dart (ring_of border d) (after border k d) ≡ true
+after_in_ring : (border : List BorderDart) (k : ℕ) (d : Dart) → IsLinkedBorder border → Has border d → has_dart (ring_of border d) (after border k d) ≡ true
 after_in_ring border zero d linked h = walk_head border d d (length border)
 after_in_ring border (suc k) d linked h = ring_closed border d (after border k d) linked h (after_in_ring border k d linked h)
 
-pub in_ring : (border : List BorderDart) (d e : Dart) → IsLinked border → Has border d → Reaches border d e → has_dart (ring_of border d) e ≡ true
+pub in_ring : (border : List BorderDart) (d e : Dart) → IsLinkedBorder border → Has border d → Reaches border d e → has_dart (ring_of border d) e ≡ true
 in_ring border d e linked h (k, p) = subst (λ (x : Dart). has_dart (ring_of border d) x ≡ true) p (after_in_ring border k d linked h)
 
 pub from_ring : (border : List BorderDart) (d e : Dart) → has_dart (ring_of border d) e ≡ true → Reaches border d e
 from_ring border d e h = walk_reaches border d d e (length border) h
 
-pub reaches_known : (border : List BorderDart) (d e : Dart) → IsLinked border → Has border d → Reaches border d e → Has border e
+pub reaches_known : (border : List BorderDart) (d e : Dart) → IsLinkedBorder border → Has border d → Reaches border d e → Has border e
 reaches_known border d e linked h (k, p) = subst (Has border) p (after_known border k d linked h)
 
 -- all of it is in the border
-walk_known : (border : List BorderDart) (first d : Dart) (n : ℕ) → IsLinked border → Has border d → All (Has border) (walk border first n d)
+walk_known : (border : List BorderDart) (first d : Dart) (n : ℕ) → IsLinkedBorder border → Has border d → All (Has border) (walk border first n d)
 walk_known border first d zero linked h = All-cons (Has border) d [] h (All-nil (Has border))
 walk_known border first d (suc n) linked h =
     ⊎_elim
@@ -145,7 +145,7 @@ walk_known border first d (suc n) linked h =
     (All-cons (Has border) d (walk border first n (next_dart border d)) h (walk_known border first (next_dart border d) n linked (next_known border d linked h))))
     (by_bool (same_dart (next_dart border d) first))
 
-pub ring_known : (border : List BorderDart) (d : Dart) → IsLinked border → Has border d → All (Has border) (ring_of border d)
+pub ring_known : (border : List BorderDart) (d : Dart) → IsLinkedBorder border → Has border d → All (Has border) (ring_of border d)
 ring_known border d linked h = walk_known border d d (length border) linked h
 
 -- ---- its least dart
@@ -164,7 +164,7 @@ all_in p (d ∷ ds) each =
 pub begins : (border : List BorderDart) (d : Dart) → ((e : Dart) → Reaches border d e → dart_before e d ≡ false) → begins_ring border d ≡ true
 begins border d least = all_in (λ (e : Dart). not (dart_before e d)) (ring_of border d) (λ e h. not_from_false (dart_before e d) (least e (from_ring border d e h)))
 
-pub begins_not : (border : List BorderDart) (d e : Dart) → IsLinked border → Has border d → Reaches border d e → dart_before e d ≡ true → begins_ring border d ≡ false
+pub begins_not : (border : List BorderDart) (d e : Dart) → IsLinkedBorder border → Has border d → Reaches border d e → dart_before e d ≡ true → begins_ring border d ≡ false
 begins_not border d e linked h reach less =
     false_from_ne_true (begins_ring border d)
     (λ all. false≢true (sym (not_from_true (dart_before e d) less) ∙ all_out (λ (x : Dart). not (dart_before x d)) (ring_of border d) e all (in_ring border d e linked h reach)))

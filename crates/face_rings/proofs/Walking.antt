@@ -7,7 +7,7 @@ use Rattle.face_rings.specs.declared.content.BorderDart.{BorderDart}
 use Rattle.face_rings.specs.Border.{next_dart}
 use Rattle.face_rings.specs.Rings.{walk, ring_of}
 use Rattle.face_rings.proofs.Ranks.{same_in}
-use Rattle.face_rings.proofs.Orbits.{Has, IsLinked, next_known, after, bounded}
+use Rattle.face_rings.proofs.Orbits.{Has, IsLinkedBorder, next_known, after, bounded}
 
 -- the ring so far, and the dart that comes behind it
 pub record IsWalked (border : List BorderDart) (first : Dart) (ring : List Dart) (here : Dart) : Type 0 where
@@ -21,14 +21,14 @@ started border first h =
     let all : length border ≡ length border - 0 = omega arith in
     record { known = h; is = refl; away = λ j some less e. absurd (omega arith); walked = ap (λ (n : ℕ). walk border first n first) all }
 
-pub walk_few : (border : List BorderDart) (first : Dart) (ring : List Dart) (here : Dart) → IsLinked border → Has border first → IsWalked border first ring here → length ring < length border
+pub walk_few : (border : List BorderDart) (first : Dart) (ring : List Dart) (here : Dart) → IsLinkedBorder border → Has border first → IsWalked border first ring here → length ring < length border
 walk_few border first ring here linked h w = let few = bounded border (suc (length ring)) first linked h w.away in omega arith
 
 -- one step of the walk
 walk_step : (border : List BorderDart) (first here : Dart) (n m : ℕ) → n ≡ suc m → walk border first n here ≡ walk border first (suc m) here
 walk_step border first here n m e = ap (λ (k : ℕ). walk border first k here) e
 
-pub walk_end : (border : List BorderDart) (first : Dart) (ring : List Dart) (here on : Dart) → IsLinked border → Has border first → IsWalked border first ring here → on ≡ next_dart border here → same_dart on first ≡ true →
+pub walk_end : (border : List BorderDart) (first : Dart) (ring : List Dart) (here on : Dart) → IsLinkedBorder border → Has border first → IsWalked border first ring here → on ≡ next_dart border here → same_dart on first ≡ true →
     ring ++ here ∷ [] ≡ ring_of border first
 walk_end border first ring here on linked h w is same =
     let few = walk_few border first ring here linked h w in
@@ -38,7 +38,7 @@ walk_end border first ring here on linked h w is same =
     let last : walk border first (suc m) here ≡ here ∷ [] = rw back refl in
     sym (w.walked ∙ ap (λ ds. ring ++ ds) (walk_step border first here (length border - length ring) m more ∙ last))
 
-pub walk_on : (border : List BorderDart) (first : Dart) (ring : List Dart) (here on : Dart) → IsLinked border → Has border first → IsWalked border first ring here → on ≡ next_dart border here → same_dart on first ≡ false →
+pub walk_on : (border : List BorderDart) (first : Dart) (ring : List Dart) (here on : Dart) → IsLinkedBorder border → Has border first → IsWalked border first ring here → on ≡ next_dart border here → same_dart on first ≡ false →
     IsWalked border first (ring ++ here ∷ []) on
 walk_on border first ring here on linked h w is other =
     let few = walk_few border first ring here linked h w in

@@ -19,8 +19,8 @@ use Rattle.drawing.specs.Writes.{all_written, edge_row_id}
 use Rattle.drawing.proofs.WritesInOrder.{can_write-append}
 use Rattle.edge_links.specs.LinksLaw.{HasDirections, link_writes_of, with_row}
 use Rattle.edge_links.proofs.RightLinks.{links_are_right}
-use Rattle.edit_conditions.proofs.IsolatedTests.{has_row-change}
 use Rattle.face_split.specs.Added.{own_dart, added_writes, added_rows}
+use Rattle.topo_tables.proofs.RowChanges.{has_changed}
 
 pub face_row_there : (S : Drawing) (f : ℕ) → has_face S f ≡ true → IsTrue (has_face_row (tables_of S) f)
 face_row_there S f there = list_any-map (λ (r : FaceRow). r.face_id == f) (face_row S) S.faces ∙ there
@@ -51,7 +51,7 @@ added_can S a b line f h =
     let itself = or_right (has_row edge_row_id (tables_of S).edges S.next_ids.edge) (eqb S.next_ids.edge S.next_ids.edge) (eq-eqb S.next_ids.edge S.next_ids.edge refl) in
     let face = face_row_there S f h.face in
     let links = links_are_right.writable S a b line f left right h.ordered h.plain h.at_start h.at_end h.long in
-    let start = has_row-change node_id_of S.nodes b.node_id a.node_id (λ row. record row { containing_face = None }) (λ r. refl) ∙ h.start in (
+    let start = has_changed node_id_of S.nodes b.node_id a.node_id (λ row. record row { containing_face = None }) (λ r. refl) ∙ h.start in (
       ((refl, h.more), h.start, h.end, itself, itself, face, face),
       can_write-append S.next_ids (with_row S a b line f left right) (link_writes_of S (with_edge S a b line f) a b) (SetContaining (Old b.node_id) None ∷ SetContaining (Old a.node_id) None ∷ [])
           links ((h.end, tt), ((start, tt), tt)),

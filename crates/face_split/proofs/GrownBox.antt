@@ -11,8 +11,8 @@ use Rattle.drawing.specs.Writable.{CanWriteAll}
 use Rattle.drawing.specs.Writes.{all_written}
 use Rattle.face_boxes.specs.Bounds.{box_write}
 use Rattle.face_boxes.proofs.DividedBoxes.{kept_can, kept_written, others_added}
+use Rattle.face_boxes.proofs.Boxes.{same_box}
 use Rattle.face_split.specs.Closing.{HasEdgeIn, WasAdded}
-use Rattle.face_split.proofs.OnePart.{same_box}
 
 can_grow : (S : Drawing) (a b : NodeRow) (line : List Point) (f : ℕ) (t u : Tables) (ws : List RowWrite) → WasAdded S a b line f t → ws ≡ box_write f (face_box (drawn u) f) → CanWriteAll t.next_ids t ws
 can_grow S a b line f t u ws h is =

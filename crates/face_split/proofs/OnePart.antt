@@ -1,30 +1,27 @@
 -- A face that is divided into itself and a new face: what the stages of the draft leave.
-use Rattle.std.proofs.Common.{◌≡◌, ℕ, Bool, true, false, not, ◌&&◌, ◌==◌, List, [], ◌∷◌, ◌++◌, IsTrue, refl, sym, ap, ◌∙◌, subst, inl, inr, cond, eq-eqb, Option, None, filter}
+use Rattle.std.proofs.Common.{◌≡◌, ℕ, Bool, true, false, not, ◌&&◌, ◌==◌, List, [], ◌∷◌, ◌++◌, IsTrue, refl, sym, ap, ◌∙◌, subst, inl, inr, cond, eq-eqb}
 use Rattle.std.proofs.lemmas.List.Elements.{Contains-push}
 use Rattle.std.proofs.lemmas.List.Folds.{list_any-append}
 use Rattle.std.proofs.lemmas.Bool.{and_parts, or_left, or_right}
 use Rattle.topo_base.specs.Point.{Point}
-use Rattle.topo_base.specs.declared.rows.Box4.{Box4}
 use Rattle.topo_base.specs.declared.rows.FaceRow.{FaceRow}
 use Rattle.topo_base.specs.declared.rows.NodeRow.{NodeRow}
 use Rattle.topo_base.specs.declared.write.RowWrite.{RowWrite}
 use Rattle.drawing.proofs.Ordering.{InOrder}
-use Rattle.drawing.proofs.TableLemmas.{drawn-tables_of}
 use Rattle.drawing.specs.AddEdge.{Division, coming, divided}
-use Rattle.drawing.specs.Drawing.{Drawing, Edge}
+use Rattle.drawing.specs.Drawing.{Drawing}
 use Rattle.drawing.specs.IsoEdits.{with_edge}
 use Rattle.drawing.specs.Ring.{is_shell}
 use Rattle.drawing.specs.Subdivision.{face_id_of}
-use Rattle.drawing.specs.Tables.{Tables, tables_of, drawn, face_box}
+use Rattle.drawing.specs.Tables.{Tables, tables_of}
 use Rattle.drawing.specs.Writable.{CanWriteAll, has_face_row}
 use Rattle.drawing.specs.Writes.{all_written}
 use Rattle.drawing.specs.Content.{listing}
 use Rattle.drawing.specs.Relations.{face_type, lists_element}
 use Rattle.ring_laws.specs.Ringed.{IsRinged}
 use Rattle.face_parts.specs.declared.parts.FaceParts.{FaceParts}
-use Rattle.std.specs.Prelude.{flat_map, if◌then◌else◌}
-use Rattle.drawing.specs.Tables.{has_side, least_box}
 use Rattle.face_boxes.proofs.DividedBoxes.{ArePartsOf, one_can, one_written, others_of_division}
+use Rattle.face_boxes.proofs.Boxes.{same_box}
 use Rattle.face_parts.specs.DividedFace.{IsDividedFace, with_division}
 use Rattle.face_rings.specs.declared.content.BorderDart.{BorderDart}
 use Rattle.face_rings.specs.Border.{are_linked}
@@ -121,12 +118,6 @@ in_one_by S a b line f shell =
 are_parts : (f new : ℕ) (b : Bool) → ArePartsOf f new (cond b f new) (cond b new f)
 are_parts f new true = inl (refl, refl)
 are_parts f new false = inr (refl, refl)
-
-abbrev box_among : ℕ → List Edge → Option Box4
-box_among g edges = if g == 0 then None else least_box (flat_map (λ (e : Edge). e.geom) (filter (has_side g) edges))
-
-pub same_box : (U : Drawing) (g : ℕ) → box_among g (drawn (tables_of U)).edges ≡ face_box U g
-same_box U g = ap (λ (D : Drawing). box_among g D.edges) (drawn-tables_of U)
 
 pub one_can_box : (S : Drawing) (a b : NodeRow) (line : List Point) (f : ℕ) (shell : Bool) → WasAdded S a b line f (added_rows S a b line f)
     → CanWriteAll (one_followed S a b line f shell).next_ids (one_followed S a b line f shell) (both_boxes (one_followed S a b line f shell) (the_parts S f shell).left_part (the_parts S f shell).right_part)

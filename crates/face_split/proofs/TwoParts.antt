@@ -13,13 +13,14 @@ use Rattle.drawing.specs.Tables.{Tables, tables_of, face_row}
 use Rattle.drawing.specs.Writable.{CanWriteAll}
 use Rattle.drawing.specs.Writes.{all_written}
 use Rattle.face_boxes.proofs.DividedBoxes.{others_of_division, two_can, two_written}
+use Rattle.face_boxes.proofs.Boxes.{same_box}
 use Rattle.face_parts.specs.declared.parts.FaceParts.{FaceParts}
 use Rattle.face_parts.specs.DividedFace.{IsDividedFace, with_division}
 use Rattle.face_rings.specs.declared.content.BorderDart.{BorderDart}
 use Rattle.face_split.specs.Added.{added_rows}
 use Rattle.face_split.specs.Closing.{IsCut, WasAdded, in_two, two_parts}
 use Rattle.face_split.specs.Divided.{IsDivisible, both_boxes, followed_rows, new_face, with_new_face}
-use Rattle.face_split.proofs.OnePart.{at_added, division_by, divided_by, faces_ordered, knows_features, same_box, there_kept, there_new}
+use Rattle.face_split.proofs.OnePart.{at_added, division_by, divided_by, faces_ordered, knows_features, there_kept, there_new}
 
 -- ---- both parts are new
 abbrev pub two_begun : Drawing → NodeRow → NodeRow → List Point → ℕ → Tables

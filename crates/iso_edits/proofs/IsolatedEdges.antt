@@ -2,7 +2,7 @@
 use Rattle.std.proofs.Common.{◌≡◌, ◌≢◌, ℕ, ◌+◌, ◌<◌, ◌^◌, ◌==◌, ◌&&◌, ◌||◌, List, [], ◌∷◌, ◌++◌, refl, sym, ap, ◌∙◌, subst, Option, Some, None, Ok, IsTrue, Bool, true, false, not, eqb, eqb-true, eq-eqb, map, unwrap_or, ⊎_elim}
 use Rattle.std.specs.List.{list_any, flat_map, Contains}
 use Rattle.std.specs.Option.{option_eq}
-use Rattle.std.proofs.lemmas.Bool.{or_right}
+use Rattle.std.proofs.lemmas.Bool.{or_right, not-true}
 use Rattle.topo_base.specs.Point.{Point}
 use Rattle.topo_base.specs.declared.rows.NodeRow.{NodeRow}
 use Rattle.topo_base.specs.declared.rows.Box4.{Box4}
@@ -28,16 +28,13 @@ use Rattle.face_boxes.specs.Bounds.{box_with, box_write, other_write, without}
 use Rattle.face_boxes.proofs.Boxes.{boxed, boxed_there, box_written, other_written, boxes_come, boxes_go, can_box, can_other}
 use Rattle.iso_edits.proofs.IsolatedNodes.{face_there}
 use Rattle.iso_edits.proofs.IsolatedLinks.{rows_comes, rows_goes}
-use Rattle.edit_conditions.proofs.IsolatedTests.{found_id, found_there, has_row-change}
+use Rattle.edit_conditions.proofs.IsolatedTests.{found_id, found_there}
 use Rattle.plane.proofs.ListTests.{contains_cases, contains_none}
 use Rattle.drawing.proofs.Members.{contains-found, pairwise-same, ids_differ}
 use Rattle.drawing.proofs.Ordering.{InOrder}
 use Rattle.drawing.proofs.WritesInOrder.{can_write-append, written-append}
-
--- no edge where a node is isolated
-none_there : (b : Bool) → not b ≡ true → b ≡ false
-none_there true h = absurd cc
-none_there false h = refl
+use Rattle.drawing.specs.AddEdge.{coming}
+use Rattle.topo_tables.proofs.RowChanges.{has_changed}
 
 -- a node that was found is there, also after other nodes' containing faces have changed
 node_there : (S : Drawing) (n : ℕ) (node : NodeRow) → node_at S n ≡ Some node → IsTrue (has_row node_id_of S.nodes node.node_id)
@@ -45,12 +42,9 @@ node_there S n node found =
     subst (λ k. IsTrue (has_row node_id_of S.nodes k)) (sym (found_id node_id_of S.nodes n node found)) (found_there node_id_of S.nodes n node found)
 
 still_there : (nodes : List NodeRow) (face : Option ℕ) (m n : ℕ) → IsTrue (has_row node_id_of nodes n) → IsTrue (has_row node_id_of (put_in_face face m nodes) n)
-still_there nodes face m n there = has_row-change node_id_of nodes m n (λ row. record row { containing_face = face }) (λ r. refl) ∙ there
+still_there nodes face m n there = has_changed node_id_of nodes m n (λ row. record row { containing_face = face }) (λ r. refl) ∙ there
 
--- the edge that comes, and its writes
-abbrev pub coming_edge : Drawing → NodeRow → NodeRow → List Point → ℕ → Edge
-coming_edge S a b line f = record { edge_id = S.next_ids.edge; start_node = a.node_id; end_node = b.node_id; left_face = f; right_face = f; geom = line }
-
+-- the writes of the edge that comes
 abbrev pub edge_writes : ℕ → ℕ → ℕ → ℕ → List Point → List RowWrite
 edge_writes edge a b f line =
     AddEdge (Old edge) (Old a) (Old b) (record { edge = Old edge; forward = false }) (record { edge = Old edge; forward = true }) (Old f) (Old f) line
@@ -62,7 +56,7 @@ pub edge_comes : (S : Drawing) (start end : ℕ) (a b : NodeRow) (line : List Po
     → step S (AddIsoEdge start end line) ≡ Ok (record { drawing = with_edge S a b line f; ids = the_edge S.next_ids.edge ∷ [] })
     → IsPlanFor S (AddIsoEdge start end line) (edge_writes S.next_ids.edge a.node_id b.node_id f line ++ box_write f bounds) (the_edge S.next_ids.edge ∷ [])
 edge_comes S start end a b line f bounds listed is ordered fits found_a found_b differ lone_a lone_b done =
-    let e = coming_edge S a b line f in
+    let e = coming S a b line f in
     let n = S.next_ids in
     let T = with_edge S a b line f in
     let ws = edge_writes S.next_ids.edge a.node_id b.node_id f line in
@@ -70,7 +64,7 @@ edge_comes S start end a b line f bounds listed is ordered fits found_a found_b 
     let there_b = node_there S end b found_b in
     let face = face_there S f listed in
     let itself = or_right (has_row edge_row_id (tables_of S).edges S.next_ids.edge) (eqb S.next_ids.edge S.next_ids.edge) (eq-eqb S.next_ids.edge S.next_ids.edge refl) in
-    let edges = rows_comes S.edges e (none_there (list_any (is_end_of a.node_id) S.edges) lone_a) (none_there (list_any (is_end_of b.node_id) S.edges) lone_b) differ in
+    let edges = rows_comes S.edges e (not-true (list_any (is_end_of a.node_id) S.edges) lone_a) (not-true (list_any (is_end_of b.node_id) S.edges) lone_b) differ in
     let faces = boxes_come S T e f bounds refl ordered refl refl is in
     let t = all_written n (tables_of S) ws in
     record {
@@ -97,7 +91,7 @@ none_of p (y ∷ xs) x h c =
 
 only_end : (S : Drawing) (n id : ℕ) (x : Edge) → has_only S n id id ≡ true → Contains S.edges x → eqb x.edge_id id ≡ false → is_end_of n x ≡ false
 only_end S n id x only c other = end_only (is_end_of n x) (eqb x.edge_id id) other
-    (none_of (λ (y : Edge). is_end_of n y && not (y.edge_id == id) && not (y.edge_id == id)) S.edges x (none_there (list_any (λ (y : Edge). is_end_of n y && not (y.edge_id == id) && not (y.edge_id == id)) S.edges) only) c)
+    (none_of (λ (y : Edge). is_end_of n y && not (y.edge_id == id) && not (y.edge_id == id)) S.edges x (not-true (list_any (λ (y : Edge). is_end_of n y && not (y.edge_id == id) && not (y.edge_id == id)) S.edges) only) c)
   where
     end_only : (b same : Bool) → same ≡ false → (b && not same && not same) ≡ false → b ≡ false
     end_only false same e h = refl

@@ -1,7 +1,7 @@
 -- The links of edges where an isolated edge comes or goes: those of the others stay, and those of the edge are its own two half-edges.
-use Rattle.std.proofs.Common.{◌≡◌, ℕ, ◌==◌, ◌&&◌, ◌||◌, List, [], ◌∷◌, ◌++◌, refl, sym, ap, ◌∙◌, subst, Bool, true, false, not, eqb, eq-eqb, map, filter, cond, arith}
+use Rattle.std.proofs.Common.{◌≡◌, ℕ, ◌==◌, ◌&&◌, List, [], ◌∷◌, ◌++◌, refl, sym, ap, ◌∙◌, subst, Bool, true, false, not, eqb, eq-eqb, map, filter, cond}
 use Rattle.std.specs.List.{list_any, flat_map, Contains}
-use Rattle.std.proofs.lemmas.Bool.Decides.{nat_tests}
+use Rattle.std.proofs.lemmas.Bool.{or_parts}
 use Rattle.topo_base.specs.declared.rows.EdgeRow.{EdgeRow}
 use Rattle.drawing.specs.Drawing.{Edge, edge_id_of, is_end_of}
 use Rattle.drawing.specs.HalfEdge.{HalfEdge, forward_of, backward_of, both_ways, twin, leaves, same_half_edge}
@@ -10,6 +10,7 @@ use Rattle.drawing.specs.Rows.{without_row}
 use Rattle.drawing.specs.Tables.{edge_row}
 use Rattle.drawing.specs.Writes.{edge_row_id}
 use Rattle.plane.proofs.ListTests.{contains_here, contains_there}
+use Rattle.face_boxes.proofs.Boxes.{other_way}
 
 -- what may follow h: what leaves where it arrives, but not h walked back
 abbrev may_follow : HalfEdge → HalfEdge → Bool
@@ -28,29 +29,21 @@ away_filter e h rest away =
     ∙ ap (λ b. cond b (backward_of e ∷ filter (may_follow h) rest) (filter (may_follow h) rest)) second
 
 -- the same half-edge is next among others of which the same may follow
-next_same : (hs ks : List HalfEdge) (h : HalfEdge) → filter (may_follow h) ks ≡ filter (may_follow h) hs → next_of ks h ≡ next_of hs h
-next_same hs ks h e = ap (λ (fs : List HalfEdge). or_twin h (first_clockwise (leaving (twin h)) fs)) e
+next_by_filter : (hs ks : List HalfEdge) (h : HalfEdge) → filter (may_follow h) ks ≡ filter (may_follow h) hs → next_of ks h ≡ next_of hs h
+next_by_filter hs ks h e = ap (λ (fs : List HalfEdge). or_twin h (first_clockwise (leaving (twin h)) fs)) e
 
 row_same : (hs ks : List HalfEdge) (x : Edge) → next_of ks (forward_of x) ≡ next_of hs (forward_of x) → next_of ks (backward_of x) ≡ next_of hs (backward_of x) → edge_row ks x ≡ edge_row hs x
 row_same hs ks x e f = rw (e, f) refl
 
 -- ---- an edge more
--- what is false of either is false of both
-neither : (a b : Bool) → (a || b) ≡ false → (a ≡ false) × (b ≡ false)
-neither true b h = absurd cc
-neither false b h = (refl, h)
-
 -- the ends of e are no ends of x, so e is away from both half-edges of x
 away_from : (e x : Edge) → is_end_of e.start_node x ≡ false → is_end_of e.end_node x ≡ false → IsAway e (forward_of x) × IsAway e (backward_of x)
 away_from e x h k =
-    let starts = neither (x.start_node == e.start_node) (x.end_node == e.start_node) h in
-    let ends = neither (x.start_node == e.end_node) (x.end_node == e.end_node) k in (
-      record { start = turned x.end_node e.start_node starts.1; end = turned x.end_node e.end_node ends.1 },
-      record { start = turned x.start_node e.start_node starts.0; end = turned x.start_node e.end_node ends.0 },
+    let starts = or_parts (x.start_node == e.start_node) (x.end_node == e.start_node) h in
+    let ends = or_parts (x.start_node == e.end_node) (x.end_node == e.end_node) k in (
+      record { start = other_way x.end_node e.start_node starts.1; end = other_way x.end_node e.end_node ends.1 },
+      record { start = other_way x.start_node e.start_node starts.0; end = other_way x.start_node e.end_node ends.0 },
     )
-  where
-    turned : (a b : ℕ) → eqb a b ≡ false → eqb b a ≡ false
-    turned a b h = grind (arith, nat_tests)
 
 added_filter : (edges : List Edge) (e : Edge) (h : HalfEdge) → IsAway e h → filter (may_follow h) (flat_map both_ways (edges ++ e ∷ [])) ≡ filter (may_follow h) (flat_map both_ways edges)
 added_filter [] e h away = away_filter e h [] away
@@ -63,12 +56,12 @@ pub rows_added : (edges xs : List Edge) (e : Edge) → list_any (is_end_of e.sta
     → map (edge_row (flat_map both_ways (edges ++ e ∷ []))) xs ≡ map (edge_row (flat_map both_ways edges)) xs
 rows_added edges [] e h k = refl
 rows_added edges (x ∷ xs) e h k =
-    let starts = neither (is_end_of e.start_node x) (list_any (is_end_of e.start_node) xs) h in
-    let ends = neither (is_end_of e.end_node x) (list_any (is_end_of e.end_node) xs) k in
+    let starts = or_parts (is_end_of e.start_node x) (list_any (is_end_of e.start_node) xs) h in
+    let ends = or_parts (is_end_of e.end_node x) (list_any (is_end_of e.end_node) xs) k in
     let away = away_from e x starts.0 ends.0 in
     let hs = flat_map both_ways edges in
     let ks = flat_map both_ways (edges ++ e ∷ []) in
-    let first = row_same hs ks x (next_same hs ks (forward_of x) (added_filter edges e (forward_of x) away.0)) (next_same hs ks (backward_of x) (added_filter edges e (backward_of x) away.1)) in
+    let first = row_same hs ks x (next_by_filter hs ks (forward_of x) (added_filter edges e (forward_of x) away.0)) (next_by_filter hs ks (backward_of x) (added_filter edges e (backward_of x) away.1)) in
     let rest = rows_added edges xs e starts.1 ends.1 in
     cc
 
@@ -76,19 +69,16 @@ rows_added edges (x ∷ xs) e h k =
 own_forward : (edges : List Edge) (e : Edge) → list_any (is_end_of e.end_node) edges ≡ false → eqb e.start_node e.end_node ≡ false → filter (may_follow (forward_of e)) (flat_map both_ways (edges ++ e ∷ [])) ≡ []
 own_forward [] e h differ = rw (differ, eq-eqb e.end_node e.end_node refl, eq-eqb e.edge_id e.edge_id refl) refl
 own_forward (x ∷ edges) e h differ =
-    let both = neither (is_end_of e.end_node x) (list_any (is_end_of e.end_node) edges) h in
-    let ends = neither (x.start_node == e.end_node) (x.end_node == e.end_node) both.0 in
+    let both = or_parts (is_end_of e.end_node x) (list_any (is_end_of e.end_node) edges) h in
+    let ends = or_parts (x.start_node == e.end_node) (x.end_node == e.end_node) both.0 in
     away_filter x (forward_of e) (flat_map both_ways (edges ++ e ∷ [])) (record { start = ends.0; end = ends.1 }) ∙ own_forward edges e both.1 differ
 
 own_backward : (edges : List Edge) (e : Edge) → list_any (is_end_of e.start_node) edges ≡ false → eqb e.end_node e.start_node ≡ false → filter (may_follow (backward_of e)) (flat_map both_ways (edges ++ e ∷ [])) ≡ []
 own_backward [] e h differ = rw (differ, eq-eqb e.start_node e.start_node refl, eq-eqb e.edge_id e.edge_id refl) refl
 own_backward (x ∷ edges) e h differ =
-    let both = neither (is_end_of e.start_node x) (list_any (is_end_of e.start_node) edges) h in
-    let ends = neither (x.start_node == e.start_node) (x.end_node == e.start_node) both.0 in
+    let both = or_parts (is_end_of e.start_node x) (list_any (is_end_of e.start_node) edges) h in
+    let ends = or_parts (x.start_node == e.start_node) (x.end_node == e.start_node) both.0 in
     away_filter x (backward_of e) (flat_map both_ways (edges ++ e ∷ [])) (record { start = ends.0; end = ends.1 }) ∙ own_backward edges e both.1 differ
-
-turned : (a b : ℕ) → eqb a b ≡ false → eqb b a ≡ false
-turned a b h = grind (arith, nat_tests)
 
 -- an edge whose links are its own two half-edges
 abbrev pub lone_row : Edge → EdgeRow
@@ -108,8 +98,8 @@ pub own_row : (edges : List Edge) (e : Edge) → list_any (is_end_of e.start_nod
     → edge_row (flat_map both_ways (edges ++ e ∷ [])) e ≡ lone_row e
 own_row edges e h k differ =
     let hs = flat_map both_ways (edges ++ e ∷ []) in
-    let first : next_of hs (forward_of e) ≡ twin (forward_of e) = next_same [] hs (forward_of e) (own_forward edges e k differ) in
-    let second : next_of hs (backward_of e) ≡ twin (backward_of e) = next_same [] hs (backward_of e) (own_backward edges e h (turned e.start_node e.end_node differ)) in
+    let first : next_of hs (forward_of e) ≡ twin (forward_of e) = next_by_filter [] hs (forward_of e) (own_forward edges e k differ) in
+    let second : next_of hs (backward_of e) ≡ twin (backward_of e) = next_by_filter [] hs (backward_of e) (own_backward edges e h (other_way e.start_node e.end_node differ)) in
     rw (first, second) refl
 
 -- all rows, with that of the edge that comes
@@ -161,4 +151,4 @@ rows_goes edges e only others =
     sym (rows_kept hs ks e.edge_id edges (λ x c other.
     let o = others x c other in
     let away = away_from e x o.0 o.1 in
-    row_same hs ks x (next_same hs ks (forward_of x) (gone (forward_of x) away.0)) (next_same hs ks (backward_of x) (gone (backward_of x) away.1))))
+    row_same hs ks x (next_by_filter hs ks (forward_of x) (gone (forward_of x) away.0)) (next_by_filter hs ks (backward_of x) (gone (backward_of x) away.1))))

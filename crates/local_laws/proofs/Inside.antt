@@ -14,7 +14,7 @@ use Rattle.parity_laws.specs.Cuts.{Inner, first_part}
 use Rattle.parity_laws.specs.Rings.{In, Plain, Drawn, Within}
 use Rattle.parity_laws.specs.Steps.{Even, direction, above, above_at, left}
 use Rattle.parity_laws.specs.Walks.{NotAt}
-use Rattle.parity_laws.specs.Ways.{Tied, Meets, Fork}
+use Rattle.parity_laws.specs.Ways.{Tied, MeetsAtEnds, Fork}
 use Rattle.parity_laws.proofs.Across.{start_on, end_on}
 use Rattle.parity_laws.proofs.Cutting.{first_along}
 use Rattle.parity_laws.proofs.CutSides.{left_along}
@@ -34,7 +34,7 @@ one_grid p q e =
     λ i. record { x = ex i; y = ey i }
 
 -- a step that meets d at its ends alone
-first_meets : (d t : Segment) (m : Point) → Inner m d → t ≢ d → Meets d t → (Meets (first_part d m) t ⊎ AreApart t (first_part d m)) × (t.a ≢ m) × (t.b ≢ m)
+first_meets : (d t : Segment) (m : Point) → Inner m d → t ≢ d → MeetsAtEnds d t → (MeetsAtEnds (first_part d m) t ⊎ AreApart t (first_part d m)) × (t.a ≢ m) × (t.b ≢ m)
 first_meets d t m inner other h =
     ⊎_elim
     (λ (e : (t.a ≡ d.a) × (t.b ≡ d.b)). absurd (other (λ i. record { a = e.0 i; b = e.1 i })))
@@ -79,14 +79,14 @@ inner_left T X d m plain i inner even w n nb =
           inl (λ r on. c r (on.0, on_first d m r inner on.1)),
           ((λ e. c (rational m) (subst (λ (p : Point). IsOn (rational p) t) e (start_on t), m_on)), (λ e. c (rational m) (subst (λ (p : Point). IsOn (rational p) t) e (end_on t), m_on))),
         ))
-        (λ (g : Meets d t ⊎ Meets d (back t)).
+        (λ (g : MeetsAtEnds d t ⊎ MeetsAtEnds d (back t)).
         ⊎_elim
-        (λ (h : Meets d t).
+        (λ (h : MeetsAtEnds d t).
         let k = first_meets d t m inner (λ e. n (subst (λ z. In z X) e j)) h in
-        (⊎_elim (λ (a : Meets (first_part d m) t). inr (inl a)) (λ (a : AreApart t (first_part d m)). inl a) k.0, (k.1, k.2)))
-        (λ (h : Meets d (back t)).
+        (⊎_elim (λ (a : MeetsAtEnds (first_part d m) t). inr (inl a)) (λ (a : AreApart t (first_part d m)). inl a) k.0, (k.1, k.2)))
+        (λ (h : MeetsAtEnds d (back t)).
         let k = first_meets d (back t) m inner (λ e. nb (subst (λ z. In z X) (ap back e) j)) h in
-        (⊎_elim (λ (a : Meets (first_part d m) (back t)). inr (inr a)) (λ (a : AreApart (back t) (first_part d m)). inl (λ r on. a r (on_round t r on.0, on.1))) k.0, (k.2, k.1)))
+        (⊎_elim (λ (a : MeetsAtEnds (first_part d m) (back t)). inr (inr a)) (λ (a : AreApart (back t) (first_part d m)). inl (λ r on. a r (on_round t r on.0, on.1))) k.0, (k.2, k.1)))
         g)
         (each_in (Tied d) T (plain.tied d i) t (w t j))
 

@@ -1,7 +1,6 @@
 -- The face in which an added line lies: it is one at both ends, and each point between them is in it.
 use Rattle.std.proofs.Common.{◌≡◌, ◌≢◌, ℕ, zero, suc, refl, sym, ◌∙◌, ap, subst, arith, ⊎_elim, Bool, true, false, List, [], ◌∷◌, eqb}
 use Rattle.std.specs.Prelude.{reverse, IsTrue}
-use Rattle.std.specs.List.{Contains}
 use Rattle.std.proofs.lemmas.Bool.{and_parts, both_ways, eqb-true, eq-eqb, ne_eqb}
 use Rattle.topo_base.specs.Point.{Point, same_point}
 use Rattle.topo_base.specs.RationalPoint.{RationalPoint, rational, IsAt, SamePoint}
@@ -9,31 +8,29 @@ use Rattle.topo_base.specs.declared.rows.NodeRow.{NodeRow}
 use Rattle.drawing.specs.AddEdge.{coming, face_at_start, face_at_end}
 use Rattle.plane.specs.Direction.{first_direction}
 use Rattle.drawing.specs.Blocked.{is_line_blocked}
-use Rattle.drawing.specs.Drawing.{Drawing, edge_id_of}
+use Rattle.drawing.specs.Drawing.{Drawing}
 use Rattle.drawing.specs.Faced.{is_in}
-use Rattle.drawing.specs.HalfEdge.{HalfEdge, forward_of, backward_of, half_edges}
+use Rattle.drawing.specs.HalfEdge.{HalfEdge, forward_of, backward_of}
 use Rattle.drawing.specs.IsoEdits.{with_edge}
 use Rattle.plane.specs.Line.{segments_of, first_vertex, last_vertex}
 use Rattle.plane.specs.RationalTests.{IsOn, IsOnLine}
 use Rattle.plane.specs.Segment.{Segment}
 use Rattle.plane.specs.Crossings.{back}
 use Rattle.plane.proofs.LineTurns.{first-reverse}
-use Rattle.drawing.proofs.Members.{ids_within}
 use Rattle.edit_changes.proofs.LongLines.{push_long}
 use Rattle.edit_changes.proofs.PlainStaying.{HasPlain, has_plain, edge_more}
-use Rattle.plane.proofs.Signs.{times_one}
 use Rattle.plane.proofs.SimpleTests.{first_begins}
 use Rattle.face_rings.proofs.FaceBorders.{has_plain_lines}
 use Rattle.face_rings.proofs.HalfLines.{HasPlainLines}
-use Rattle.face_rings.proofs.HalvesApart.{half_of}
 use Rattle.ring_laws.proofs.Known.{wedge_listed}
 use Rattle.ring_laws.proofs.RingedDrawings.{plain_lines}
+use Rattle.ring_laws.proofs.WithEdge.{no_old}
 use Rattle.parity_laws.specs.Coming.{walked_back, both_ways_of, with_line, LineComes}
 use Rattle.parity_laws.specs.Rings.{In, Within, those, of_face}
 use Rattle.parity_laws.specs.Steps.{Even, above_at, left}
 use Rattle.parity_laws.proofs.LineFaces.{left_on_line, left_at_alone}
 use Rattle.parity_laws.proofs.Lists.{in_right}
-use Rattle.parity_laws.proofs.OnLine.{Joint, joint_before, joint_after, old_in, way_in, forth_in, back_in, not_both}
+use Rattle.parity_laws.proofs.OnLine.{LineJoint, joint_before, joint_after, old_in, way_in, forth_in, back_in, not_both}
 use Rattle.parity_laws.proofs.Orbits.{label_even}
 use Rattle.parity_laws.proofs.Star.{those_within}
 use Rattle.parity_laws.proofs.Tests.{same_is}
@@ -45,6 +42,7 @@ use Rattle.face_laws.proofs.InFace.{in_by}
 use Rattle.face_laws.proofs.Lists.{contains_in}
 use Rattle.face_laws.proofs.LineSteps.{segments-reverse}
 use Rattle.face_laws.proofs.RingLabels.{face_ringwise, first_step, first_there}
+use Rattle.face_laws.proofs.Seen.{is_at}
 use Rattle.subdivision_laws.proofs.AddedSteps.{first_of, rest_of, last_of, added, plain_line_comes, drawn_of, forward_in, backward_in, half_stays}
 use Rattle.subdivision_laws.proofs.DividedFaces.{start_on}
 use Rattle.local_laws.specs.Lines.{IsLineBetween}
@@ -64,20 +62,13 @@ pub lines_with : (S : Drawing) (a b : NodeRow) (line : List Point) (f : ℕ) →
 lines_with S a b line f c h =
     plain_lines (with_edge S a b line f) (plain_with S a b line f c h) (push_long S.edges (coming S a b line f) (record { each = (has_plain_lines S c.ringed.rings).long }) h.between.long).each
 
-fresh : (S : Drawing) (x : HalfEdge) → HasPlainLines S → x.edge_id ≡ S.next_ids.edge → Contains (half_edges S) x → ⊥
-fresh S x good id c =
-    let r = half_of S.edges x c in
-    let below = (ids_within edge_id_of 0 S.next_ids.edge S.edges r.edge good.edge_ids r.there).1 in
-    let same : r.edge.edge_id ≡ x.edge_id = ⊎_elim (λ (p : forward_of r.edge ≡ x). ap (λ (y : HalfEdge). y.edge_id) p) (λ (p : backward_of r.edge ≡ x). ap (λ (y : HalfEdge). y.edge_id) p) r.way in
-    omega arith
-
 forth_comes : (S : Drawing) (a b : NodeRow) (line : List Point) (f : ℕ) → IsCovered S → IsFree S a b line → Comes S (with_edge S a b line f) (forward_of (coming S a b line f))
 forth_comes S a b line f c h = record {
   lines = has_plain_lines S c.ringed.rings;
   more = lines_with S a b line f c h;
   stays = half_stays S a b line f;
   there = forward_in S a b line f;
-  fresh = fresh S (forward_of (coming S a b line f)) (has_plain_lines S c.ringed.rings) refl;
+  fresh = no_old S (forward_of (coming S a b line f)) (has_plain_lines S c.ringed.rings) refl;
 }
 
 back_comes : (S : Drawing) (a b : NodeRow) (line : List Point) (f : ℕ) → IsCovered S → IsFree S a b line → Comes S (with_edge S a b line f) (backward_of (coming S a b line f))
@@ -86,7 +77,7 @@ back_comes S a b line f c h = record {
   more = lines_with S a b line f c h;
   stays = half_stays S a b line f;
   there = backward_in S a b line f;
-  fresh = fresh S (backward_of (coming S a b line f)) (has_plain_lines S c.ringed.rings) refl;
+  fresh = no_old S (backward_of (coming S a b line f)) (has_plain_lines S c.ringed.rings) refl;
 }
 
 leaves_start : (S : Drawing) (a b : NodeRow) (line : List Point) (f : ℕ) → IsCovered S → IsFree S a b line →
@@ -120,7 +111,7 @@ leaves_end S a b line f c h =
     }
 
 -- ---- one face
-same_face : (f k : ℕ) → ((g : ℕ) → g ≢ 0 → eqb f g ≡ eqb k g) → k ≡ f
+pub same_face : (f k : ℕ) → ((g : ℕ) → g ≢ 0 → eqb f g ≡ eqb k g) → k ≡ f
 same_face zero zero h = refl
 same_face zero (suc k) h = absurd (both_ways (eqb 0 (suc k)) (ne_eqb 0 (suc k) (λ e. omega (arith, e))) (h (suc k) (λ e. omega (arith, e)) ∙ eq-eqb (suc k) (suc k) refl))
 same_face (suc f) k h = eqb-true k (suc f) (sym (h (suc f) (λ e. omega (arith, e))) ∙ eq-eqb (suc f) (suc f) refl)
@@ -160,9 +151,6 @@ one_face_by S a b p q vs c h = same_face (face_at_start S a line) (face_at_end S
     comes = back_comes S a b (p ∷ q ∷ vs) 0 c h
 
 -- ---- the points of the line
-at_rational : (p : Point) (r : RationalPoint) → SamePoint r (rational p) → IsAt p r
-at_rational p r e = (sym (times_one r.x) ∙ e.0, sym (times_one r.y) ∙ e.1)
-
 last_ends_line : (p q : Point) (vs : List Point) → (last_of p q vs).b ≡ last_vertex (p ∷ q ∷ vs)
 last_ends_line p q [] = refl
 last_ends_line p q (v ∷ vs) = last_ends_line q v vs
@@ -193,7 +181,7 @@ point_parity S a b p q vs r s c h i on not_first not_last g n =
     walked = back_in (first_of p q ∷ rest_of q vs) s i
 
     -- a vertex where the line goes on is at no old step
-    not_old : (m k : Segment) → In m (first_of p q ∷ rest_of q vs) → In k (first_of p q ∷ rest_of q vs) → Joint (with_line (steps_of S) (first_of p q ∷ rest_of q vs)) m k → (t : Segment) → In t (steps_of S) → t.a ≢ m.b
+    not_old : (m k : Segment) → In m (first_of p q ∷ rest_of q vs) → In k (first_of p q ∷ rest_of q vs) → LineJoint (with_line (steps_of S) (first_of p q ∷ rest_of q vs)) m k → (t : Segment) → In t (steps_of S) → t.a ≢ m.b
     not_old m k im ik joint t j e =
         ⊎_elim
         (λ (f : t ≡ k). not_both (steps_of S) (first_of p q) (rest_of q vs) (last_of p q vs) comes t j (subst (λ z. In z (both_ways_of (first_of p q ∷ rest_of q vs))) (sym f) (forth_in (first_of p q ∷ rest_of q vs) k ik)))
@@ -209,8 +197,8 @@ point_parity S a b p q vs r s c h i on not_first not_last g n =
     at_start : SamePoint r (rational s.a) → above_at (border S g) r ≡ eqb (face_at_start S a (p ∷ q ∷ vs)) g
     at_start at =
         ⊎_elim
-        (λ (e : s ≡ first_of p q). absurd (not_first (at_rational p r (subst (λ (z : Segment). SamePoint r (rational z.a)) e at))))
-        (λ (m : (m : Segment) × (In m (first_of p q ∷ rest_of q vs) × Joint (with_line (steps_of S) (first_of p q ∷ rest_of q vs)) m s)).
+        (λ (e : s ≡ first_of p q). absurd (not_first (is_at p r (subst (λ (z : Segment). SamePoint r (rational z.a)) e at))))
+        (λ (m : (m : Segment) × (In m (first_of p q ∷ rest_of q vs) × LineJoint (with_line (steps_of S) (first_of p q ∷ rest_of q vs)) m s)).
         at_vertex s forth at (λ u j e. not_old m.0 s m.1.0 i m.1.1 u j (e ∙ m.1.1.meets)))
         (joint_before (with_line (steps_of S) (first_of p q ∷ rest_of q vs)) (first_of p q) (rest_of q vs) (last_of p q vs) s comes.strung i)
 
@@ -218,8 +206,8 @@ point_parity S a b p q vs r s c h i on not_first not_last g n =
     at_end at =
         ⊎_elim
         (λ (e : s ≡ last_of p q vs).
-        absurd (not_last (at_rational (last_vertex (p ∷ q ∷ vs)) r (subst (λ (v : Point). SamePoint r (rational v)) (ap (λ (z : Segment). z.b) e ∙ last_ends_line p q vs) at))))
-        (λ (k : (k : Segment) × (In k (first_of p q ∷ rest_of q vs) × Joint (with_line (steps_of S) (first_of p q ∷ rest_of q vs)) s k)).
+        absurd (not_last (is_at (last_vertex (p ∷ q ∷ vs)) r (subst (λ (v : Point). SamePoint r (rational v)) (ap (λ (z : Segment). z.b) e ∙ last_ends_line p q vs) at))))
+        (λ (k : (k : Segment) × (In k (first_of p q ∷ rest_of q vs) × LineJoint (with_line (steps_of S) (first_of p q ∷ rest_of q vs)) s k)).
         at_vertex (back s) walked at (λ u j e. not_old s k.0 i k.1.0 k.1.1 u j e))
         (joint_after (with_line (steps_of S) (first_of p q ∷ rest_of q vs)) (first_of p q) (rest_of q vs) (last_of p q vs) s comes.strung i)
 

@@ -6,7 +6,7 @@ use Rattle.plane.specs.Segment.{Segment}
 use Rattle.plane.specs.Parity.{xor}
 use Rattle.parity_laws.specs.Steps.{left}
 use Rattle.parity_laws.specs.Rings.{In, those, Drawn, Ringwise, Sided, of_face}
-use Rattle.parity_laws.specs.Shelling.{IsShellOf, OneShell, NoShell, HasRings}
+use Rattle.parity_laws.specs.Shelling.{IsShellOf, OneShell, NoShell, HasRingLabels}
 use Rattle.parity_laws.proofs.Dividing.{side_ringwise}
 use Rattle.parity_laws.proofs.FaceShells.{has_shell}
 use Rattle.parity_laws.proofs.Labels.{ringwise_same, sided_same}
@@ -32,7 +32,7 @@ record HasShell (T : List Segment) (f : ℕ) (label : Segment → Bool) : Type 0
   shell : IsShellOf T (as_face f label) f p
   mine : label shell.ring.step ≡ true
 
-label_shell : (T : List Segment) (f : ℕ) (label : Segment → Bool) (s : Segment) → Drawn T → HasRings T → Ringwise T label → Sided T label → In s T → label s ≡ true → HasShell T f label
+label_shell : (T : List Segment) (f : ℕ) (label : Segment → Bool) (s : Segment) → Drawn T → HasRingLabels T → Ringwise T label → Sided T label → In s T → label s ≡ true → HasShell T f label
 label_shell T f label s drawn labels rings sided i m =
     let h = has_shell T (as_face f label) f s drawn labels (ringwise_same T label (of_face (as_face f label) f) (λ t j. as_face_is f label t) rings) (sided_same T label (of_face (as_face f label) f) (λ t j. as_face_is f label t) sided) i
     (eqb-true (as_face f label s) f (sym (as_face_is f label s) ∙ m)) in
@@ -45,7 +45,7 @@ record PartShell (T : List Segment) (F : Segment → ℕ) (f : ℕ) (ring : Segm
   shell : IsShellOf T F f p
   value : left (those ring T) shell.ring.step ≡ c
 
-part_shell : (T : List Segment) (F : Segment → ℕ) (f : ℕ) (ring : Segment → Bool) (c : Bool) (s : Segment) → Drawn T → HasRings T → Ringwise T (of_face F f) → Sided T (of_face F f) → Ringwise T ring → In s T → F s ≡ f →
+part_shell : (T : List Segment) (F : Segment → ℕ) (f : ℕ) (ring : Segment → Bool) (c : Bool) (s : Segment) → Drawn T → HasRingLabels T → Ringwise T (of_face F f) → Sided T (of_face F f) → Ringwise T ring → In s T → F s ≡ f →
     left (those ring T) s ≡ c → PartShell T F f ring c
 part_shell T F f ring c s drawn labels hf sided hr i e m = of_label (label_shell T f part s drawn labels rings (face_divided T (of_face F f) ring c drawn hf hr sided) i (in_it (of_face F f s) (left (those ring T) s) (eq-eqb (F s) f e) m))
   where
@@ -73,7 +73,7 @@ part_shell T F f ring c s drawn labels hf sided hr i e m = of_label (label_shell
           value = same_value (left (those ring T) h.shell.ring.step) c both.1;
         }
 
-pub one_value : (T : List Segment) (F : Segment → ℕ) (f : ℕ) (ring : Segment → Bool) (s t : Segment) → Drawn T → HasRings T → Ringwise T (of_face F f) → Sided T (of_face F f) → OneShell T F f → Ringwise T ring →
+pub one_value : (T : List Segment) (F : Segment → ℕ) (f : ℕ) (ring : Segment → Bool) (s t : Segment) → Drawn T → HasRingLabels T → Ringwise T (of_face F f) → Sided T (of_face F f) → OneShell T F f → Ringwise T ring →
     In s T → In t T → F s ≡ f → F t ≡ f → left (those ring T) s ≡ left (those ring T) t
 one_value T F f ring s t drawn labels hf sided one hr i j e g =
     let a = part_shell T F f ring (left (those ring T) s) s drawn labels hf sided hr i e refl in
@@ -84,7 +84,7 @@ one_value T F f ring s t drawn labels hf sided one hr i j e g =
     ∙ b.value
 
 -- ---- face 0 without a shell
-pub outer_value : (T : List Segment) (F : Segment → ℕ) (ring : Segment → Bool) (s : Segment) → Drawn T → HasRings T → ((g : ℕ) → Ringwise T (of_face F g)) → ((g : ℕ) → g ≢ 0 → Sided T (of_face F g)) → NoShell T F 0 →
+pub outer_value : (T : List Segment) (F : Segment → ℕ) (ring : Segment → Bool) (s : Segment) → Drawn T → HasRingLabels T → ((g : ℕ) → Ringwise T (of_face F g)) → ((g : ℕ) → g ≢ 0 → Sided T (of_face F g)) → NoShell T F 0 →
     Ringwise T ring → In s T → F s ≡ 0 → left (those ring T) s ≡ false
 outer_value T F ring s drawn labels faces sided none hr i e = by_value (left (those ring T) s) refl
   where

@@ -18,7 +18,7 @@ use Rattle.face_rings.proofs.FaceBorders.{has_plain_lines}
 use Rattle.face_rings.proofs.HalvesApart.{half_of, line_of}
 use Rattle.parity_laws.specs.Steps.{above, left}
 use Rattle.parity_laws.specs.Rings.{In, Drawn, Ringwise, those}
-use Rattle.parity_laws.specs.Shelling.{IsRingOf, OneShell, NoShell}
+use Rattle.parity_laws.specs.Shelling.{IsRingLabel, OneShell, NoShell}
 use Rattle.parity_laws.proofs.BesideParts.{beside_vertex, off_first_ring}
 use Rattle.parity_laws.proofs.Dividing.{Divides, Place, in_a, in_b, elsewhere, place, side_ringwise, second_part, divided_sides, outer_divided_sides}
 use Rattle.parity_laws.proofs.DividedShells.{divided_shells, outer_divided_shells, one_is_shell}
@@ -138,7 +138,7 @@ aside T e d h r parted o i mine = record {
     by : Divides (steps_of T) (face_of T) (Parted T e d) d.face d.left_part d.right_part (start e) (left_label T e) (right_label T e)
     by = divides T e d parted
 
-    ring : IsRingOf (steps_of T) (own_label T h)
+    ring : IsRingLabel (steps_of T) (own_label T h)
     ring = ring_of_label T h parted.before.rings o.there
 
     on_it : In (first_step h) (steps_along h)

@@ -1,5 +1,5 @@
 -- The laws of a divided face, from those of the rings on the two sides of its edge.
-use Rattle.std.proofs.Common.{◌≡◌, refl, sym, ◌∙◌, ap, subst, ⊎_elim, Bool, true, false, not, cond, Some, IsTrue, ◌||◌}
+use Rattle.std.proofs.Common.{◌≡◌, refl, sym, ◌∙◌, ap, subst, ⊎_elim, Bool, true, false, not, cond, Some, IsTrue, ◌||◌, ◌≤◌, List, length}
 use Rattle.std.specs.List.{Contains}
 use Rattle.std.proofs.lemmas.Bool.{false_from_ne_true}
 use Rattle.topo_base.specs.Point.{Point}
@@ -13,6 +13,7 @@ use Rattle.drawing.specs.AddEdge.{Division, is_on_left, part_at, part_beside}
 use Rattle.drawing.specs.Drawing.{Drawing, Edge}
 use Rattle.drawing.specs.HalfEdge.{HalfEdge, forward_of, backward_of, half_edges}
 use Rattle.drawing.specs.Ring.{ring_of, ring_segments, contains_half_edge, least_vertex, is_shell}
+use Rattle.drawing.specs.IsoEdits.{with_edge}
 use Rattle.face_rings.specs.FaceBorder.{HasRings}
 use Rattle.parity_laws.specs.Rings.{those}
 use Rattle.parity_laws.specs.Steps.{above, left}
@@ -21,10 +22,12 @@ use Rattle.face_laws.proofs.RingLabels.{first_step, first_there, has_half, ring_
 use Rattle.face_laws.proofs.RingSums.{ring_over}
 use Rattle.face_laws.proofs.ShellTests.{shell_is}
 use Rattle.subdivision_laws.proofs.DividedFaces.{IsParted, left_label, right_label, start, good_of, forth_in, back_in, start_on, start_in, start_back, least_half}
+use Rattle.subdivision_laws.specs.Subdivided.{IsSubdivided}
 use Rattle.local_laws.specs.Boxes.{IsInBox, HasAll, IsOfFace, PartsLieInBoxes}
 use Rattle.local_laws.specs.Parts.{IsToDivide, IsOfOther, IsVertex, DivisionIsLocal}
 use Rattle.local_laws.proofs.Dividing.{edge_of, one_part, parted, node_placed}
 use Rattle.local_laws.proofs.OtherRings.{IsOther, other_apart, other_apart_right, other_above, right_above, right_shell, start_is_vertex, other_of_one, point_of_face, over_in_box}
+use Rattle.edit_changes.specs.Evidence.{FaceMayBeDivided, left_ring, right_ring}
 
 -- ---- a drawing whose edge e divides a face
 -- the test at a vertex of another ring
@@ -123,32 +126,26 @@ part_of_own T d h v k c face off own away = by_right (contains_half_edge d.right
     by_right true m = by_rings (contains_half_edge d.left_ring h) (contains_half_edge d.right_ring h) (is_on_left d.left_ring v) off m (right_off_left T d v k (h, (on_right m, own)) away)
     by_right false m = part_of_other T d h v k (record { there = c; face = face; not_left = off; not_right = m }) (h, (in_own_ring T h, own))
 
+-- what Step decides is such a division
+to_divide : (S : Drawing) (a b : NodeRow) (line : List Point) (d : Division) → IsSubdivided S → 2 ≤ length line → FaceMayBeDivided S a b line d.face → left_ring S a b line d.face ≡ d.left_ring → right_ring S a b line d.face ≡ d.right_ring
+    → IsToDivide (with_edge S a b line d.face) d
+to_divide S a b line d before long may on_left on_right = record {
+  before = S;
+  start_node = a;
+  end_node = b;
+  line = line;
+  subdivided = before;
+  long = long;
+  may = may;
+  comes = refl;
+  on_left = on_left;
+  on_right = on_right;
+}
+
 pub division_is_local : DivisionIsLocal
 division_is_local = record {
-  one_face_new = λ S a b line d before long h. record {
-    before = S;
-    start_node = a;
-    end_node = b;
-    line = line;
-    subdivided = before;
-    long = long;
-    may = h.0;
-    comes = refl;
-    on_left = sym (ap (λ (x : Division). x.left_ring) h.1);
-    on_right = sym (ap (λ (x : Division). x.right_ring) h.1);
-  };
-  both_faces_new = λ S a b line d before long h. record {
-    before = S;
-    start_node = a;
-    end_node = b;
-    line = line;
-    subdivided = before;
-    long = long;
-    may = h.0;
-    comes = refl;
-    on_left = sym (ap (λ (x : Division). x.left_ring) h.2);
-    on_right = sym (ap (λ (x : Division). x.right_ring) h.2);
-  };
+  one_face_new = λ S a b line d before long h. to_divide S a b line d before long h.0 (sym (ap (λ (x : Division). x.left_ring) h.1)) (sym (ap (λ (x : Division). x.right_ring) h.1));
+  both_faces_new = λ S a b line d before long h. to_divide S a b line d before long h.0 (sym (ap (λ (x : Division). x.left_ring) h.2)) (sym (ap (λ (x : Division). x.right_ring) h.2));
   apart = λ T d h v k o own on.
       let p = parted T d k in
       let other = other_is T d h k o in

@@ -7,7 +7,7 @@ use Rattle.plane.specs.Segment.{Segment}
 use Rattle.plane.specs.Crossings.{back}
 use Rattle.parity_laws.specs.Steps.{Even, above, left, times}
 use Rattle.parity_laws.specs.Rings.{In, those, has, Drawn, Ringwise, Sided, of_face, IsInFace}
-use Rattle.parity_laws.specs.Shelling.{OneShell, NoShell, HasRings}
+use Rattle.parity_laws.specs.Shelling.{OneShell, NoShell, HasRingLabels}
 use Rattle.parity_laws.proofs.ClosingShells.{IsTurned}
 use Rattle.parity_laws.proofs.Dividing.{Divides, Place, in_a, in_b, elsewhere, place, divided_rings, first_part, second_part}
 use Rattle.parity_laws.proofs.FaceShells.{IsRingAt, HasOnce, linked_rings}
@@ -110,7 +110,7 @@ point_of_one T F G f a b e p q v h outer in_it = by_view (face_view T F f v h.dr
         ∙ ap (λ x. not (xor x (left (those p T) e))) (sees (those p T) p_even (those_within p T))
 
 -- ---- no vertex of another ring of the face is on the second ring, as off_first_ring in parity_laws/proofs/BesideParts
-pub off_second_ring : (T : List Segment) (F G : Segment → ℕ) (f a b : ℕ) (e : Segment) (p q o : Segment → Bool) (r : Segment) → Drawn T → HasRings T → Divides T F G f a b e p q → HasOnce T G a → HasOnce T G b →
+pub off_second_ring : (T : List Segment) (F G : Segment → ℕ) (f a b : ℕ) (e : Segment) (p q o : Segment → Bool) (r : Segment) → Drawn T → HasRingLabels T → Divides T F G f a b e p q → HasOnce T G a → HasOnce T G b →
     IsRingAt T F f o r → o e ≡ false → o (back e) ≡ false → (t : Segment) → In t T → q t ≡ true → t.a ≢ r.a
 off_second_ring T F G f a b e p q o r drawn labels d once_a once_b ro off off_back t i m meet = by_place (place T F G f a b e p q d r ro.there)
   where

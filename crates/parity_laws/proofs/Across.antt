@@ -18,7 +18,7 @@ use Rattle.plane.specs.Crossings.{over, back, crosses, passed}
 use Rattle.plane.specs.Parity.{xor}
 use Rattle.plane.specs.Direction.{Direction}
 use Rattle.parity_laws.specs.Steps.{direction, before, leaves_before, twin, odd, Each, Even, above, turned, times, left}
-use Rattle.parity_laws.specs.Ways.{Onward, Apart, Fork, Meets, Tied}
+use Rattle.parity_laws.specs.Ways.{Onward, Apart, Fork, MeetsAtEnds, Tied}
 use Rattle.parity_laws.proofs.Sums.{xor_none, xor_comm, xor_self, odd_both, odd_each, each_map, equal, summing}
 use Rattle.parity_laws.proofs.Tests.{same_not, and_comm}
 use Rattle.parity_laws.proofs.Gap.{seg, passed_to, gap, Gap, leaves_none, twin_no, twin_gap, start_gap, end_gap}
@@ -121,7 +121,7 @@ pub back_gap : (s t : Segment) → Gap s (back t) → Gap s t
 back_gap s t e = sym (gap_back s t) ∙ e ∙ xor_comm (passed_to s t.b) (passed_to s t.a)
 
 -- ---- each way to lie
-meets_gap : (s t : Segment) → Onward s.a s.b → s.a ≢ s.b → Meets s t → Gap s t
+meets_gap : (s t : Segment) → Onward s.a s.b → s.a ≢ s.b → MeetsAtEnds s t → Gap s t
 meets_gap s t on n h =
     ⊎_elim
     (λ (g : (t.a ≡ s.a) × (t.b ≡ s.b)). subst₂ (λ p q. Gap s (seg p q)) (sym g.0) (sym g.1) (twin_gap s.a s.b n))
@@ -138,10 +138,10 @@ pub tied_gap : (s t : Segment) → Onward s.a s.b → s.a ≢ s.b → Tied s t �
 tied_gap s t on n h =
     ⊎_elim
     (λ (g : AreApart t s). clear_gap t s g on.along)
-    (λ (g : Meets s t ⊎ Meets s (back t)).
+    (λ (g : MeetsAtEnds s t ⊎ MeetsAtEnds s (back t)).
     ⊎_elim
-    (λ (f : Meets s t). meets_gap s t on n f)
-    (λ (f : Meets s (back t)). back_gap s t (meets_gap s (back t) on n f))
+    (λ (f : MeetsAtEnds s t). meets_gap s t on n f)
+    (λ (f : MeetsAtEnds s (back t)). back_gap s t (meets_gap s (back t) on n f))
     g)
     h
 

@@ -21,11 +21,11 @@ use Rattle.parity_laws.proofs.Across.{end_on}
 use Rattle.plane.proofs.Tests.{yes_lt, no_lt}
 
 -- two directions that are not apart: one half, and parallel
-pub record Alike (u w : Direction) : Type 0 where
+pub record NotApart (u w : Direction) : Type 0 where
   pub half : rightward u ≡ rightward w
   pub line : cross u w ≡ pos 0
 
-decide : (u w : Direction) → Apart u w ⊎ Alike u w
+decide : (u w : Direction) → Apart u w ⊎ NotApart u w
 decide u w = by_tests (rightward u) (rightward w) (int_lt (cross u w) (pos 0)) (int_lt (cross w u) (pos 0)) refl refl refl refl
   where
     flat : int_lt (cross u w) (pos 0) ≡ false → int_lt (cross w u) (pos 0) ≡ false → cross u w ≡ pos 0
@@ -34,7 +34,7 @@ decide u w = by_tests (rightward u) (rightward w) (int_lt (cross u w) (pos 0)) (
         zero : (x y : ℤ) → y ≡ neg_ℤ x → pos 0 ≤ℤ x → pos 0 ≤ℤ y → x ≡ pos 0
         zero x y e h k = omega (arith, signed)
 
-    by_tests : (a b c d : Bool) → rightward u ≡ a → rightward w ≡ b → int_lt (cross u w) (pos 0) ≡ c → int_lt (cross w u) (pos 0) ≡ d → Apart u w ⊎ Alike u w
+    by_tests : (a b c d : Bool) → rightward u ≡ a → rightward w ≡ b → int_lt (cross u w) (pos 0) ≡ c → int_lt (cross w u) (pos 0) ≡ d → Apart u w ⊎ NotApart u w
     by_tests true false c d ea eb ec ed = inl (inl (rw (ea, eb)))
     by_tests false true c d ea eb ec ed = inl (inr (rw (ea, eb)))
     by_tests true true true d ea eb ec ed = inl (inl (rw (ea, eb, ec)))
@@ -113,7 +113,7 @@ upright_on : (a p q : Point) → p.x ≡ a.x → q.x ≡ a.x → IsBetween a.y p
 upright_on a p q e f h z = point_on (record { a = a; b = q }) p z (inl (omega (arith, signed), omega (arith, signed))) h
 
 -- of two points from a in one direction, one is on the way to the other
-pub one_between : (a b z : Point) → b ≢ a → z ≢ a → Alike (direction (record { a = a; b = z })) (direction (record { a = a; b = b })) →
+pub one_between : (a b z : Point) → b ≢ a → z ≢ a → NotApart (direction (record { a = a; b = z })) (direction (record { a = a; b = b })) →
     IsOn (rational b) (record { a = a; b = z }) ⊎ IsOn (rational z) (record { a = a; b = b })
 one_between a b z nb nz h = by_half (rightward (direction (record { a = a; b = z }))) refl
   where
@@ -217,7 +217,7 @@ fork_from s t e ns nt only = record {
     apart_there =
         ⊎_elim
         (λ (g : Apart (direction (record { a = s.a; b = t.b })) (direction s)). g)
-        (λ (g : Alike (direction (record { a = s.a; b = t.b })) (direction s)).
+        (λ (g : NotApart (direction (record { a = s.a; b = t.b })) (direction s)).
         absurd (⊎_elim
         (λ (k : IsOn (rational s.b) (record { a = s.a; b = t.b })). ns (sym (same_points s.b s.a (only (rational s.b) (end_on s) (subst (λ p. IsOn (rational s.b) (record { a = p; b = t.b })) (sym e) k)))))
         (λ (k : IsOn (rational t.b) (record { a = s.a; b = s.b })). nt (e ∙ sym (same_points t.b s.a (only (rational t.b) k (end_on t)))))

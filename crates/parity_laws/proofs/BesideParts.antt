@@ -12,7 +12,7 @@ use Rattle.parity_laws.proofs.Ringwise.{in_each}
 use Rattle.parity_laws.proofs.Walking.{not_turned}
 use Rattle.parity_laws.proofs.Star.{those_in}
 use Rattle.parity_laws.proofs.Splitting.{has_next}
-use Rattle.parity_laws.specs.Shelling.{OneShell, NoShell, HasRings}
+use Rattle.parity_laws.specs.Shelling.{OneShell, NoShell, HasRingLabels}
 use Rattle.parity_laws.proofs.Neighbours.{Linked, linked_onward, linked_turned, vertex_linked, ring_linked, edge_linked}
 use Rattle.parity_laws.proofs.FaceShells.{IsRingAt, HasOnce, linked_rings}
 use Rattle.parity_laws.proofs.Dividing.{Divides, Place, in_a, in_b, elsewhere, place, divided_rings, divided_sides, outer_divided_sides, IsOuterPart, first_part, second_part}
@@ -31,7 +31,7 @@ beside_vertex T p r drawn hp off = sym (ap (xor (above (those p T) r.a)) none �
         (off t m.0 m.1, λ e. off n.0 n.1.0 (sym (hp t n.0 m.0 n.1.0 n.1.1) ∙ m.1) (n.1.1.meets ∙ e))))
 
 -- both parts have at most one shell, the new ones of face 0 too
-pub parts_have_once : (T : List Segment) (F G : Segment → ℕ) (f a b : ℕ) (e : Segment) (p q : Segment → Bool) → Drawn T → HasRings T → Divides T F G f a b e p q → f ≢ 0 → a ≢ 0 → b ≢ 0 →
+pub parts_have_once : (T : List Segment) (F G : Segment → ℕ) (f a b : ℕ) (e : Segment) (p q : Segment → Bool) → Drawn T → HasRingLabels T → Divides T F G f a b e p q → f ≢ 0 → a ≢ 0 → b ≢ 0 →
     RestOfFace T F f e p q → HasOnce T G a × HasOnce T G b
 parts_have_once T F G f a b e p q drawn labels d nf na nb rest =
     let h = divided_shells T F G f a b e p q drawn labels d nf na nb rest in
@@ -54,7 +54,7 @@ outer_parts_have_once T F G f a b e p q drawn d ef outer turn none =
     sides = outer_divided_sides T F G f a b e p q drawn d ef outer
 
 -- no vertex of another ring of the face is on the first ring
-pub off_first_ring : (T : List Segment) (F G : Segment → ℕ) (f a b : ℕ) (e : Segment) (p q o : Segment → Bool) (r : Segment) → Drawn T → HasRings T → Divides T F G f a b e p q → HasOnce T G a → HasOnce T G b →
+pub off_first_ring : (T : List Segment) (F G : Segment → ℕ) (f a b : ℕ) (e : Segment) (p q o : Segment → Bool) (r : Segment) → Drawn T → HasRingLabels T → Divides T F G f a b e p q → HasOnce T G a → HasOnce T G b →
     IsRingAt T F f o r → o e ≡ false → o (back e) ≡ false → (t : Segment) → In t T → p t ≡ true → t.a ≢ r.a
 off_first_ring T F G f a b e p q o r drawn labels d once_a once_b ro off off_back t i m meet = by_place (place T F G f a b e p q d r ro.there)
   where
@@ -80,7 +80,7 @@ off_first_ring T F G f a b e p q o r drawn labels d once_a once_b ro off off_bac
     by_place (elsewhere n g) = n ro.face
 
 -- so the parity of the first ring above the start of r tells the part of all its steps
-pub ring_in_first : (T : List Segment) (F G : Segment → ℕ) (f a b : ℕ) (e : Segment) (p q o : Segment → Bool) (r : Segment) → Drawn T → HasRings T → Divides T F G f a b e p q → HasOnce T G a → HasOnce T G b →
+pub ring_in_first : (T : List Segment) (F G : Segment → ℕ) (f a b : ℕ) (e : Segment) (p q o : Segment → Bool) (r : Segment) → Drawn T → HasRingLabels T → Divides T F G f a b e p q → HasOnce T G a → HasOnce T G b →
     IsRingAt T F f o r → o e ≡ false → o (back e) ≡ false → above (those p T) r.a ≡ left (those p T) e → (s : Segment) → In s T → o s ≡ true → G s ≡ a
 ring_in_first T F G f a b e p q o r drawn labels d once_a once_b ro off off_back h s i m =
     eqb-true (G s) a
@@ -88,7 +88,7 @@ ring_in_first T F G f a b e p q o r drawn labels d once_a once_b ro off off_back
     ∙ eq-eqb (G r) a
     (d.part_a r ro.there ro.face (sym (beside_vertex T p r drawn d.first.ringwise (off_first_ring T F G f a b e p q o r drawn labels d once_a once_b ro off off_back)) ∙ h)))
 
-pub ring_in_second : (T : List Segment) (F G : Segment → ℕ) (f a b : ℕ) (e : Segment) (p q o : Segment → Bool) (r : Segment) → Drawn T → HasRings T → Divides T F G f a b e p q → HasOnce T G a → HasOnce T G b →
+pub ring_in_second : (T : List Segment) (F G : Segment → ℕ) (f a b : ℕ) (e : Segment) (p q o : Segment → Bool) (r : Segment) → Drawn T → HasRingLabels T → Divides T F G f a b e p q → HasOnce T G a → HasOnce T G b →
     IsRingAt T F f o r → o e ≡ false → o (back e) ≡ false → above (those p T) r.a ≡ not (left (those p T) e) → (s : Segment) → In s T → o s ≡ true → G s ≡ b
 ring_in_second T F G f a b e p q o r drawn labels d once_a once_b ro off off_back h s i m =
     eqb-true (G s) b

@@ -6,7 +6,7 @@ use Rattle.plane.specs.Parity.{xor}
 use Rattle.plane.specs.Crossings.{back}
 use Rattle.parity_laws.specs.Steps.{left}
 use Rattle.parity_laws.specs.Rings.{In, those}
-use Rattle.parity_laws.specs.Shelling.{IsRingOf, IsShellOf, OneShell, NoShell}
+use Rattle.parity_laws.specs.Shelling.{IsRingLabel, IsShellOf, OneShell, NoShell}
 use Rattle.parity_laws.proofs.DividedShells.{NoOtherShell, RestOfFace}
 use Rattle.parity_laws.proofs.Labels.{those_same, rings_same}
 use Rattle.parity_laws.proofs.Orbits.{label_even}
@@ -90,7 +90,7 @@ rest_of_outer_face T first rest last F F' f p q c none =
 -- ---- other faces
 -- a ring of another face is off the line
 off_by_face : (T : List Segment) (first : Segment) (rest : List Segment) (last : Segment) (F F' : Segment → ℕ) (f : ℕ) (p q : Segment → Bool) (r : Segment → Bool) (s : Segment) → Closes T first rest last F F' f p q →
-    IsRingOf (with_line T (first ∷ rest)) r → In s (with_line T (first ∷ rest)) → r s ≡ true → F' s ≢ f → (r first ≡ false) × (r (back first) ≡ false)
+    IsRingLabel (with_line T (first ∷ rest)) r → In s (with_line T (first ∷ rest)) → r s ≡ true → F' s ≢ f → (r first ≡ false) × (r (back first) ≡ false)
 off_by_face T first rest last F F' f p q r s c ring i m n = (off first (forth_in (first ∷ rest) first (inl refl)), off (back first) (back_in (first ∷ rest) first (inl refl)))
   where
     off : (t : Segment) → In t (both_ways_of (first ∷ rest)) → r t ≡ false
@@ -131,7 +131,7 @@ other_one T first rest last F F' f p q g c n h = record {
     there : In h.shell.ring.step (with_line T (first ∷ rest))
     there = old_in T (first ∷ rest) h.shell.ring.step h.shell.ring.there
 
-    u : (r : Segment → Bool) × (IsRingOf (with_line T (first ∷ rest)) r × (r h.shell.ring.step ≡ true))
+    u : (r : Segment → Bool) × (IsRingLabel (with_line T (first ∷ rest)) r × (r h.shell.ring.step ≡ true))
     u = rings_there (with_line T (first ∷ rest)) c.comes.new h.shell.ring.step (old_in T (first ∷ rest) h.shell.ring.step h.shell.ring.there)
 
     face : F' h.shell.ring.step ≡ g

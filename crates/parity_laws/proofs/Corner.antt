@@ -11,7 +11,7 @@ use Rattle.plane.specs.Parity.{xor}
 use Rattle.plane.specs.Crossings.{back}
 use Rattle.plane.specs.Direction.{Direction}
 use Rattle.parity_laws.specs.Steps.{direction, before, leaves_before, twin, odd, Each, Even, above, turned, times, left}
-use Rattle.parity_laws.specs.Ways.{Onward, Fork, Meets, Tied, inside, Outside}
+use Rattle.parity_laws.specs.Ways.{Onward, Fork, MeetsAtEnds, Tied, inside, Outside}
 use Rattle.parity_laws.proofs.Sums.{xor_comm, odd_both, odd_each, each_map, summing}
 use Rattle.parity_laws.proofs.Tests.{same_self, same_not, one_first}
 use Rattle.parity_laws.proofs.Gap.{seg, before_self, leaves_none, leaves_start, leaves_end, twin_yes, twin_no}
@@ -26,11 +26,11 @@ pub tied_back : (s t : Segment) → Tied s t → Tied (back s) t
 tied_back s t h =
     ⊎_elim
     (λ (g : AreApart t s). inl (clear_turned t s g))
-    (λ (g : Meets s t ⊎ Meets s (back t)).
-    ⊎_elim (λ (f : Meets s t). inr (turn t f)) (λ (f : Meets s (back t)). inr (swap (turn (back t) f))) g)
+    (λ (g : MeetsAtEnds s t ⊎ MeetsAtEnds s (back t)).
+    ⊎_elim (λ (f : MeetsAtEnds s t). inr (turn t f)) (λ (f : MeetsAtEnds s (back t)). inr (swap (turn (back t) f))) g)
     h
   where
-    turn : (r : Segment) → Meets s r → Meets (back s) r ⊎ Meets (back s) (back r)
+    turn : (r : Segment) → MeetsAtEnds s r → MeetsAtEnds (back s) r ⊎ MeetsAtEnds (back s) (back r)
     turn r f =
         ⊎_elim
         (λ (g : (r.a ≡ s.a) × (r.b ≡ s.b)). inr (inl (g.1, g.0)))
@@ -135,17 +135,17 @@ rounds d t w n tied out =
     ⊎_elim
     (λ (g : AreApart t d). away d t w o (same_not t.a d.b (ends_differ t d t.a d.b g (start_on t) (end_on d))) (same_not t.b d.b (ends_differ t d t.b d.b g (end_on t) (end_on d)))
     (twin_no d t (same_not t.b d.a (ends_differ t d t.b d.a g (end_on t) (start_on d))) (same_not t.b d.b (ends_differ t d t.b d.b g (end_on t) (end_on d)))))
-    (λ (g : Meets d t ⊎ Meets d (back t)).
+    (λ (g : MeetsAtEnds d t ⊎ MeetsAtEnds d (back t)).
     ⊎_elim
-    (λ (f : Meets d t). meets t f out.start)
-    (λ (f : Meets d (back t)). turned_round (meets (back t) f out.end))
+    (λ (f : MeetsAtEnds d t). meets t f out.start)
+    (λ (f : MeetsAtEnds d (back t)). turned_round (meets (back t) f out.end))
     g)
     tied
   where
     o : Bool
     o = not (before (direction (back d)) w)
 
-    meets : (r : Segment) → Meets d r → (r.a ≡ d.b → inside (direction (back d)) w (direction r) ≡ false) → Round d w o r
+    meets : (r : Segment) → MeetsAtEnds d r → (r.a ≡ d.b → inside (direction (back d)) w (direction r) ≡ false) → Round d w o r
     meets r h out =
         ⊎_elim
         (λ (g : (r.a ≡ d.a) × (r.b ≡ d.b)). itself d r w n g.0 g.1)

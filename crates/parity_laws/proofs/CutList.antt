@@ -13,13 +13,13 @@ use Rattle.parity_laws.specs.Shelling.{OneShell, NoShell}
 use Rattle.parity_laws.proofs.Rearranging.{Rearranged, same_above, same_sided, same_one_shell, same_no_shell}
 use Rattle.parity_laws.proofs.RearrangedOf.{rearranged_of}
 use Rattle.parity_laws.proofs.Labels.{one_shell_faces, no_shell_faces, those_same, sided_same}
-use Rattle.parity_laws.proofs.Whole.{IsCut, exact, whole, each_part, part_is, whole_begin, whole_end}
+use Rattle.parity_laws.proofs.Whole.{IsStepCut, exact, whole, each_part, part_is, whole_begin, whole_end}
 use Rattle.parity_laws.proofs.CutSides.{label_above, sided_cut}
 use Rattle.parity_laws.proofs.CutShells.{one_shell_cut, no_shell_cut}
 
 -- ---- each part once
 
-parts_once : (T : List Segment) (d : Segment) (m : Point) → IsCut T d m → (t : Segment) → Once (parts d m t)
+parts_once : (T : List Segment) (d : Segment) (m : Point) → IsStepCut T d m → (t : Segment) → Once (parts d m t)
 parts_once T d m h t = by_tests (exact d t) (exact (back d) t)
   where
     two : (s r : Segment) → (s ≡ r → ⊥) → Once (s ∷ r ∷ [])
@@ -30,7 +30,7 @@ parts_once T d m h t = by_tests (exact d t) (exact (back d) t)
     by_tests false true = two (first_part (back d) m) (last_part (back d) m) (λ e. h.inner.not_end (sym (ap (λ (s : Segment). s.a) e)))
     by_tests false false = (λ i. absurd i, tt)
 
-pub cut_once : (T : List Segment) (d : Segment) (m : Point) → IsCut T d m → Once (cut d m T)
+pub cut_once : (T : List Segment) (d : Segment) (m : Point) → IsStepCut T d m → Once (cut d m T)
 cut_once T d m h = each_once T h.once (λ s i. i)
   where
     each_once : (X : List Segment) → Once X → Within X T → Once (cut d m X)
@@ -67,7 +67,7 @@ pub record IsCutTo (T : List Segment) (d : Segment) (m : Point) (U : List Segmen
   pub parts_there : Within (cut d m T) U
   pub no_more : Within U (cut d m T)
 
-pub is_cut : (T : List Segment) (d : Segment) (m : Point) (U : List Segment) → IsCutTo T d m U → IsCut T d m
+pub is_cut : (T : List Segment) (d : Segment) (m : Point) (U : List Segment) → IsCutTo T d m U → IsStepCut T d m
 is_cut T d m U h = record {
   plain = h.plain;
   once = h.once;

@@ -12,7 +12,7 @@ use Rattle.parity_laws.proofs.Ringwise.{each_in, in_each}
 use Rattle.parity_laws.proofs.Cutting.{Along, first_along, inner_back, from_along}
 use Rattle.parity_laws.proofs.Following.{follows, next_same, inside_end}
 use Rattle.parity_laws.proofs.Nearby.{along_back, last_along, inside_start, inside_along, itself, Pieces, each_cut}
-use Rattle.parity_laws.proofs.Whole.{IsCut, exact, whole, begin_of, end_of, no_vertex, begin_start, end_end, begin_end, begin_there, end_there, part_is, whole_begin, whole_end, whole_there, part_of, chosen_for}
+use Rattle.parity_laws.proofs.Whole.{IsStepCut, exact, whole, begin_of, end_of, no_vertex, begin_start, end_end, begin_end, begin_there, end_there, part_is, whole_begin, whole_end, whole_there, part_of, chosen_for}
 
 -- ---- directions of parts
 pub begin_along : (d : Segment) (m : Point) (t : Segment) → Inner m d → Along (direction (begin_of d m t)) (direction t)
@@ -37,7 +37,7 @@ wedge_along u u' w w' d d' h k l = inside_along u u' w d d' h l ∙ turned
 
 -- ---- corners
 -- n after x: the part of n that begins there is after the part of x that ends there
-pub cut_next : (T : List Segment) (d : Segment) (m : Point) → IsCut T d m → (x n : Segment) → In x T → Next T x n → Next (cut d m T) (end_of d m x) (begin_of d m n)
+pub cut_next : (T : List Segment) (d : Segment) (m : Point) → IsStepCut T d m → (x n : Segment) → In x T → Next T x n → Next (cut d m T) (end_of d m x) (begin_of d m n)
 cut_next T d m h x n i next = record {
   meets = begin_start d m n ∙ next.meets ∙ sym ends;
   first = in_each (Outside (end_of d m x) (direction (begin_of d m n))) (cut d m T) (part_is (Outside (end_of d m x) (direction (begin_of d m n))) d m T
@@ -90,14 +90,14 @@ parts_outside s m h = record {
   back_last = record { start = λ e. inside_start (direction (back (first_part s m))) (direction (last_part s m)); end = λ e. absurd (h.not_start (sym e)) };
 }
 
-pub middle_next : (T : List Segment) (d : Segment) (m : Point) → IsCut T d m → Next (cut d m T) (first_part d m) (last_part d m)
+pub middle_next : (T : List Segment) (d : Segment) (m : Point) → IsStepCut T d m → Next (cut d m T) (first_part d m) (last_part d m)
 middle_next T d m h = record {
   meets = refl;
   first = each_cut (Outside (first_part d m) (direction (last_part d m))) d m (parts_outside d m h.inner) T
       (λ t i n nb. record { start = λ e. absurd ((no_vertex T d m h t i).0 e); end = λ e. absurd ((no_vertex T d m h t i).1 e) });
 }
 
-pub middle_back : (T : List Segment) (d : Segment) (m : Point) → IsCut T d m → Next (cut d m T) (first_part (back d) m) (last_part (back d) m)
+pub middle_back : (T : List Segment) (d : Segment) (m : Point) → IsStepCut T d m → Next (cut d m T) (first_part (back d) m) (last_part (back d) m)
 middle_back T d m h = record {
   meets = refl;
   first = each_cut (Outside (first_part (back d) m) (direction (last_part (back d) m))) d m (round (parts_outside (back d) m (inner_back d m h.inner))) T
@@ -108,7 +108,7 @@ middle_back T d m h = record {
     round p = record { first = p.back_first; last = p.back_last; back_first = p.first; back_last = p.last }
 
 -- each step is its only part, or its last part follows its first
-pub parts_next : (T : List Segment) (d : Segment) (m : Point) → IsCut T d m → (t : Segment) → (begin_of d m t ≡ end_of d m t) ⊎ Next (cut d m T) (begin_of d m t) (end_of d m t)
+pub parts_next : (T : List Segment) (d : Segment) (m : Point) → IsStepCut T d m → (t : Segment) → (begin_of d m t ≡ end_of d m t) ⊎ Next (cut d m T) (begin_of d m t) (end_of d m t)
 parts_next T d m h t = by_tests (exact d t) (exact (back d) t)
   where
     by_tests : (b c : Bool) →
@@ -120,7 +120,7 @@ parts_next T d m h t = by_tests (exact d t) (exact (back d) t)
 
 -- ---- labels that are one for each ring
 -- such a label of the cut list is one on both parts of a step
-pub parts_same : (T : List Segment) (d : Segment) (m : Point) → IsCut T d m → (g : Segment → Bool) → Ringwise (cut d m T) g → (t : Segment) → In t T → g (begin_of d m t) ≡ g (end_of d m t)
+pub parts_same : (T : List Segment) (d : Segment) (m : Point) → IsStepCut T d m → (g : Segment → Bool) → Ringwise (cut d m T) g → (t : Segment) → In t T → g (begin_of d m t) ≡ g (end_of d m t)
 parts_same T d m h g rings t i =
     ⊎_elim
     (λ (e : begin_of d m t ≡ end_of d m t). ap g e)
@@ -128,18 +128,18 @@ parts_same T d m h g rings t i =
     (parts_next T d m h t)
 
 -- and on a step and the part of its whole with which this begins
-pub whole_same : (T : List Segment) (d : Segment) (m : Point) → IsCut T d m → (g : Segment → Bool) → Ringwise (cut d m T) g → (u : Segment) → In u (cut d m T) → g (begin_of d m (whole d m u)) ≡ g u
+pub whole_same : (T : List Segment) (d : Segment) (m : Point) → IsStepCut T d m → (g : Segment → Bool) → Ringwise (cut d m T) g → (u : Segment) → In u (cut d m T) → g (begin_of d m (whole d m u)) ≡ g u
 whole_same T d m h g rings u i =
     ⊎_elim
     (λ (e : u ≡ begin_of d m (whole d m u)). ap g (sym e))
     (λ (e : u ≡ end_of d m (whole d m u)). parts_same T d m h g rings (whole d m u) (whole_there T d m h u i) ∙ ap g (sym e))
     (part_of T d m h u i)
 
-pub ringwise_joined : (T : List Segment) (d : Segment) (m : Point) → IsCut T d m → (g : Segment → Bool) → Ringwise (cut d m T) g → Ringwise T (λ t. g (begin_of d m t))
+pub ringwise_joined : (T : List Segment) (d : Segment) (m : Point) → IsStepCut T d m → (g : Segment → Bool) → Ringwise (cut d m T) g → Ringwise T (λ t. g (begin_of d m t))
 ringwise_joined T d m h g rings x n i j next =
     parts_same T d m h g rings x i ∙ rings (end_of d m x) (begin_of d m n) (end_there d m T x i) (begin_there d m T n j) (cut_next T d m h x n i next)
 
-pub ringwise_cut : (T : List Segment) (d : Segment) (m : Point) → IsCut T d m → (g : Segment → Bool) → Ringwise T g → Ringwise (cut d m T) (λ u. g (whole d m u))
+pub ringwise_cut : (T : List Segment) (d : Segment) (m : Point) → IsStepCut T d m → (g : Segment → Bool) → Ringwise T g → Ringwise (cut d m T) (λ u. g (whole d m u))
 ringwise_cut T d m h g rings u v i j next =
     part_is (λ u. Next (cut d m T) u v → g (whole d m u) ≡ g (whole d m v)) d m T
     (λ x k. ⊎_elim

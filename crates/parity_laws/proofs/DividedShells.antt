@@ -7,7 +7,7 @@ use Rattle.plane.specs.Crossings.{back}
 use Rattle.parity_laws.specs.Steps.{left}
 use Rattle.parity_laws.specs.Rings.{In, those, Drawn, Ringwise, of_face}
 use Rattle.parity_laws.proofs.Labels.{those_same, rings_same}
-use Rattle.parity_laws.specs.Shelling.{IsRingOf, IsShellOf, OneShell, NoShell, HasRings}
+use Rattle.parity_laws.specs.Shelling.{IsRingLabel, IsShellOf, OneShell, NoShell, HasRingLabels}
 use Rattle.parity_laws.proofs.FaceShells.{has_shell, shell_at}
 use Rattle.parity_laws.proofs.Dividing.{Divides, Place, in_a, in_b, elsewhere, place, not_new, side_ringwise, divided_rings, divided_sides, IsOuterPart, first_part, second_part}
 
@@ -19,7 +19,7 @@ pub shell_left : (T : List Segment) (F : Segment → ℕ) (f : ℕ) (x : Segment
 shell_left T F f x drawn h s i m = h.ring.one (λ t. left (those x T) t) (side_ringwise T x drawn h.ring.ringwise) s h.ring.step i h.ring.there m h.ring.mine ∙ h.is_left
 
 -- a ring that has a step of a shell is that shell
-pub is_that_shell : (T : List Segment) (F : Segment → ℕ) (f : ℕ) (x p : Segment → Bool) (s : Segment) → Drawn T → IsShellOf T F f x → IsRingOf T p → In s T → x s ≡ true → p s ≡ true → left (those p T) s ≡ true
+pub is_that_shell : (T : List Segment) (F : Segment → ℕ) (f : ℕ) (x p : Segment → Bool) (s : Segment) → Drawn T → IsShellOf T F f x → IsRingLabel T p → In s T → x s ≡ true → p s ≡ true → left (those p T) s ≡ true
 is_that_shell T F f x p s drawn h r i m n = ap (λ X. left X s) (sym (those_same x p T (rings_same T x p s h.ring.ringwise h.ring.one r.ringwise r.one i m n))) ∙ shell_left T F f x drawn h s i m
 
 -- the steps with one face may have got another
@@ -74,7 +74,7 @@ OneOtherShell T F f c d = (r s : Segment → Bool) → IsOtherShell T F f c d r 
 
 -- a ring p with the step c, all of it in the part a
 record IsPart (T : List Segment) (G : Segment → ℕ) (a : ℕ) (p : Segment → Bool) (c : Segment) : Type 0 where
-  ring : IsRingOf T p
+  ring : IsRingLabel T p
   there : In c T
   mine : p c ≡ true
   part : (t : Segment) → In t T → p t ≡ true → G t ≡ a
@@ -160,7 +160,7 @@ abbrev pub RestOfFace : List Segment → (Segment → ℕ) → ℕ → Segment �
 RestOfFace T F f e p q = NoOtherShell T F f e (back e) ⊎ ((left (those p T) e ≡ true → left (those q T) (back e) ≡ false) × OneOtherShell T F f e (back e))
 
 -- a face other than 0 is divided: both parts have one shell
-pub divided_shells : (T : List Segment) (F G : Segment → ℕ) (f a b : ℕ) (e : Segment) (p q : Segment → Bool) → Drawn T → HasRings T → Divides T F G f a b e p q → f ≢ 0 → a ≢ 0 → b ≢ 0 →
+pub divided_shells : (T : List Segment) (F G : Segment → ℕ) (f a b : ℕ) (e : Segment) (p q : Segment → Bool) → Drawn T → HasRingLabels T → Divides T F G f a b e p q → f ≢ 0 → a ≢ 0 → b ≢ 0 →
     RestOfFace T F f e p q → OneShell T G a × OneShell T G b
 divided_shells T F G f a b e p q drawn labels d nf na nb rest = (
   record { p = x.0; shell = x.1; only = part_has_one T F G f a b p q y.0 e (back e) drawn (rings b) one two d.differ old rest_a },

@@ -13,7 +13,7 @@ use Rattle.parity_laws.proofs.Splitting.{world}
 use Rattle.parity_laws.proofs.Seeing.{face_divided, outer_divided}
 use Rattle.parity_laws.proofs.Sums.{xor_self}
 use Rattle.parity_laws.proofs.Labels.{ringwise_same, sided_same}
-use Rattle.parity_laws.specs.Shelling.{IsRingOf}
+use Rattle.parity_laws.specs.Shelling.{IsRingLabel}
 use Rattle.parity_laws.proofs.OuterFace.{outer_side}
 
 -- the step e is on the ring p, and e walked back on another ring q of the same face f; after it, G, the part of f
@@ -22,9 +22,9 @@ pub record Divides (T : List Segment) (F G : Segment → ℕ) (f a b : ℕ) (e :
   pub faces : (g : ℕ) → Ringwise T (of_face F g)
   pub sided : (g : ℕ) → g ≢ 0 → Sided T (of_face F g)
   pub there : In e T
-  pub first : IsRingOf T p
+  pub first : IsRingLabel T p
   pub first_on : p e ≡ true
-  pub second : IsRingOf T q
+  pub second : IsRingLabel T q
   pub second_on : q (back e) ≡ true
   pub other : p (back e) ≡ false
   pub face : F e ≡ f

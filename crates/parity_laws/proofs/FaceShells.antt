@@ -6,7 +6,7 @@ use Rattle.parity_laws.specs.Steps.{left}
 use Rattle.parity_laws.specs.Rings.{In, those, Drawn, Ringwise, Sided, of_face}
 use Rattle.parity_laws.proofs.Splitting.{Top, highest, highest_is_shell}
 use Rattle.parity_laws.proofs.Labels.{rings_same, rings_apart}
-use Rattle.parity_laws.specs.Shelling.{IsRingOf, IsShellOf, OneShell, NoShell, HasRings}
+use Rattle.parity_laws.specs.Shelling.{IsRingLabel, IsShellOf, OneShell, NoShell, HasRingLabels}
 use Rattle.parity_laws.proofs.Neighbours.{Linked, linked_turned, vertex_linked, no_linked_holes, no_hole_linked_to_shell}
 
 -- the ring at a highest vertex of a face
@@ -16,7 +16,7 @@ record TopShell (T : List Segment) (F : Segment → ℕ) (f : ℕ) : Type 0 wher
   shell : IsShellOf T F f p
   mine : p top.r ≡ true
 
-top_shell : (T : List Segment) (F : Segment → ℕ) (f : ℕ) (s : Segment) → Drawn T → HasRings T → Ringwise T (of_face F f) → Sided T (of_face F f) → In s T → F s ≡ f → TopShell T F f
+top_shell : (T : List Segment) (F : Segment → ℕ) (f : ℕ) (s : Segment) → Drawn T → HasRingLabels T → Ringwise T (of_face F f) → Sided T (of_face F f) → In s T → F s ≡ f → TopShell T F f
 top_shell T F f s drawn labels hf sided i e =
     let t = highest T (of_face F f) s drawn hf i (eq-eqb (F s) f e) in
     let p = labels t.r t.there in
@@ -38,13 +38,13 @@ top_shell T F f s drawn labels hf sided i e =
     }
 
 -- a face whose sides are right, and that has a step, has a shell
-pub has_shell : (T : List Segment) (F : Segment → ℕ) (f : ℕ) (s : Segment) → Drawn T → HasRings T → Ringwise T (of_face F f) → Sided T (of_face F f) → In s T → F s ≡ f →
+pub has_shell : (T : List Segment) (F : Segment → ℕ) (f : ℕ) (s : Segment) → Drawn T → HasRingLabels T → Ringwise T (of_face F f) → Sided T (of_face F f) → In s T → F s ≡ f →
     (p : Segment → Bool) × IsShellOf T F f p
 has_shell T F f s drawn labels hf sided i e = let t = top_shell T F f s drawn labels hf sided i e in (t.p, t.shell)
 
 -- p is a ring with the step s of the face f
 pub record IsRingAt (T : List Segment) (F : Segment → ℕ) (f : ℕ) (p : Segment → Bool) (s : Segment) : Type 0 where
-  pub ring : IsRingOf T p
+  pub ring : IsRingLabel T p
   pub there : In s T
   pub mine : p s ≡ true
   pub face : F s ≡ f
@@ -67,11 +67,11 @@ abbrev pub HasOnce : List Segment → (Segment → ℕ) → ℕ → Type 0
 HasOnce T F f = (Ringwise T (of_face F f) × Sided T (of_face F f) × OneShell T F f) ⊎ NoShell T F f
 
 -- rings of one face that differ have no common step
-parted : (T : List Segment) (p q : Segment → Bool) (b : Segment) → IsRingOf T p → IsRingOf T q → In b T → q b ≡ true → p b ≡ false → (t : Segment) → In t T → p t ≡ true → q t ≡ false
+parted : (T : List Segment) (p q : Segment → Bool) (b : Segment) → IsRingLabel T p → IsRingLabel T q → In b T → q b ≡ true → p b ≡ false → (t : Segment) → In t T → p t ≡ true → q t ≡ false
 parted T p q b rp rq j qb e t k m = false_from_ne_true (q t) (λ g. both_ways (p t) (rings_apart T q p b rq.one rp.ringwise j qb e t k g) m)
 
 -- with one shell, linked rings are not a hole and a shell
-mixed : (T : List Segment) (F : Segment → ℕ) (f : ℕ) (p q : Segment → Bool) (a b : Segment) → Drawn T → HasRings T → Ringwise T (of_face F f) → Sided T (of_face F f) → OneShell T F f →
+mixed : (T : List Segment) (F : Segment → ℕ) (f : ℕ) (p q : Segment → Bool) (a b : Segment) → Drawn T → HasRingLabels T → Ringwise T (of_face F f) → Sided T (of_face F f) → OneShell T F f →
     IsRingAt T F f p a → IsRingAt T F f q b → Linked T a b → left (those p T) a ≡ false → left (those q T) b ≡ true → ⊥
 mixed T F f p q a b drawn labels hf sided shells rp rq link lp lq =
     let t = top_shell T F f a drawn labels hf sided rp.there rp.face in
@@ -81,7 +81,7 @@ mixed T F f p q a b drawn labels hf sided shells rp rq link lp lq =
     rp.there rq.there rp.mine rq.mine link lp
 
 -- two linked rings of such a face are one
-pub linked_rings : (T : List Segment) (F : Segment → ℕ) (f : ℕ) (p q : Segment → Bool) (a b : Segment) → Drawn T → HasRings T → HasOnce T F f →
+pub linked_rings : (T : List Segment) (F : Segment → ℕ) (f : ℕ) (p q : Segment → Bool) (a b : Segment) → Drawn T → HasRingLabels T → HasOnce T F f →
     IsRingAt T F f p a → IsRingAt T F f q b → Linked T a b → (t : Segment) → In t T → p t ≡ q t
 linked_rings T F f p q a b drawn labels has rp rq link = by_common (p b) refl
   where
@@ -111,6 +111,6 @@ linked_rings T F f p q a b drawn labels has rp rq link = by_common (p b) refl
         has)
 
 -- and so are two that have a common vertex
-pub rings_meet_once : (T : List Segment) (F : Segment → ℕ) (f : ℕ) (p q : Segment → Bool) (a b : Segment) → Drawn T → HasRings T → HasOnce T F f →
+pub rings_meet_once : (T : List Segment) (F : Segment → ℕ) (f : ℕ) (p q : Segment → Bool) (a b : Segment) → Drawn T → HasRingLabels T → HasOnce T F f →
     IsRingAt T F f p a → IsRingAt T F f q b → a.a ≡ b.a → (t : Segment) → In t T → p t ≡ q t
 rings_meet_once T F f p q a b drawn labels has rp rq e = linked_rings T F f p q a b drawn labels has rp rq (vertex_linked T a b drawn.plain rp.there rq.there e)

@@ -20,7 +20,7 @@ use Rattle.plane.specs.Crossings.{over, back, crosses, larger, larger_segment}
 use Rattle.plane.specs.Parity.{xor}
 use Rattle.plane.specs.Direction.{cross}
 use Rattle.parity_laws.specs.Steps.{direction, rightward, twin, above, times}
-use Rattle.parity_laws.specs.Ways.{Tied, Meets, Fork}
+use Rattle.parity_laws.specs.Ways.{Tied, MeetsAtEnds, Fork}
 use Rattle.parity_laws.specs.Rings.{In, Plain, Within}
 use Rattle.parity_laws.proofs.Sums.{odd_both, odd_each, xor_yes_no, xor_no_yes, xor_neither, xor_four}
 use Rattle.parity_laws.proofs.Tests.{not_and_parts, not_and_from, and_third, and_comm, exact_is, exact_self, same_half}
@@ -122,9 +122,9 @@ is_lowest T v d t f i h z =
     (λ (c : AreApart d t).
     absurd (c (smaller_spot (width d) k (rational (foot v d)))
     (on_smaller (width d) k d (rational (foot v d)) (passes v d d k f.low.isover (below_self v d)), on_smaller (width d) k t (rational (foot v d)) (passes v d t k h z))))
-    (λ (g : Meets t d ⊎ Meets t (back d)).
+    (λ (g : MeetsAtEnds t d ⊎ MeetsAtEnds t (back d)).
     ⊎_elim
-    (λ (m : Meets t d).
+    (λ (m : MeetsAtEnds t d).
     ⊎_elim
     (λ (e : (d.a ≡ t.a) × (d.b ≡ t.b)). λ j. record { a = sym e.0 j; b = sym e.1 j })
     (λ (e : Fork t d ⊎ Fork (back t) d).
@@ -133,7 +133,7 @@ is_lowest T v d t f i h z =
     (λ (q : Fork (back t) d). let x = ap (λ (p : Point). p.x) q.start in absurd (omega (arith, signed)))
     e)
     m)
-    (λ (m : Meets t (back d)).
+    (λ (m : MeetsAtEnds t (back d)).
     ⊎_elim
     (λ (e : (d.b ≡ t.a) × (d.a ≡ t.b)). let x = ap (λ (p : Point). p.x) e.1 in absurd (omega (arith, signed)))
     (λ (e : Fork t (back d) ⊎ Fork (back t) (back d)).

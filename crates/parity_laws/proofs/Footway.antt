@@ -17,7 +17,7 @@ use Rattle.plane.specs.Crossings.{back, larger, larger_segment}
 use Rattle.plane.specs.Parity.{xor}
 use Rattle.plane.specs.Direction.{cross}
 use Rattle.parity_laws.specs.Steps.{Each, Even, direction, above, turned, times, left}
-use Rattle.parity_laws.specs.Ways.{Onward, Tied, Meets, Fork}
+use Rattle.parity_laws.specs.Ways.{Onward, Tied, MeetsAtEnds, Fork}
 use Rattle.parity_laws.specs.Walks.{NotAt}
 use Rattle.parity_laws.specs.Rings.{In, Within}
 use Rattle.parity_laws.proofs.Sums.{odd_each, equal, summing}
@@ -42,9 +42,9 @@ not_foot T v d t f i e =
     let z : area d.a d.b t.a ≡ pos 0 = area_height d t.a ∙ on_it (width d *ℤ t.a.y) (height t.a.x d) (ap (λ (p : Point). p.y) e ∙ ap (λ x. height x d) (sym ex)) in
     ⊎_elim
     (λ (c : AreApart t d). c (rational t.a) (start_on t, on_between d t.a dd (omega (arith, signed)) (omega (arith, signed)) z))
-    (λ (g : Meets d t ⊎ Meets d (back t)).
+    (λ (g : MeetsAtEnds d t ⊎ MeetsAtEnds d (back t)).
     ⊎_elim
-    (λ (m : Meets d t).
+    (λ (m : MeetsAtEnds d t).
     ⊎_elim
     (λ (q : (t.a ≡ d.a) × (t.b ≡ d.b)). let x = ap (λ (p : Point). p.x) q.0 in omega (arith, signed))
     (λ (q : Fork d t ⊎ Fork (back d) t).
@@ -53,7 +53,7 @@ not_foot T v d t f i e =
     (λ (r : Fork (back d) t). let x = ap (λ (p : Point). p.x) r.start in omega (arith, signed))
     q)
     m)
-    (λ (m : Meets d (back t)).
+    (λ (m : MeetsAtEnds d (back t)).
     ⊎_elim
     (λ (q : (t.b ≡ d.a) × (t.a ≡ d.b)). let x = ap (λ (p : Point). p.x) q.1 in omega (arith, signed))
     (λ (q : Fork d (back t) ⊎ Fork (back d) (back t)).
@@ -192,7 +192,7 @@ fork_clear T v d t f fork r on =
     crossing_turn tx ty ax ay bx by = simp multiplied (omega (arith, signed))
 
 -- ---- each step adds as much at the start of d as at the foot
-foot_meets : (T : List Segment) (v : Point) (d t : Segment) → Foot T v d → In t T → Meets d t → Gap (seg (larger (width d) d.a) (foot v d)) (larger_segment (width d) t)
+foot_meets : (T : List Segment) (v : Point) (d t : Segment) → Foot T v d → In t T → MeetsAtEnds d t → Gap (seg (larger (width d) d.a) (foot v d)) (larger_segment (width d) t)
 foot_meets T v d t f i m =
     let k = wide d v f.low.isover in
     let lt1 = times_lt (width d) d.a.x v.x k f.inner in
@@ -221,10 +221,10 @@ foot_gap T v d t f i =
     ⊎_elim
     (λ (c : AreApart t d).
     clear_gap (larger_segment (width d) t) s (λ r on. c (smaller_spot (width d) k r) (on_smaller (width d) k t r on.0, on_smaller (width d) k d r (on_part T v d r f on.1))) (omega (arith, signed)))
-    (λ (g : Meets d t ⊎ Meets d (back t)).
+    (λ (g : MeetsAtEnds d t ⊎ MeetsAtEnds d (back t)).
     ⊎_elim
-    (λ (m : Meets d t). foot_meets T v d t f i m)
-    (λ (m : Meets d (back t)). back_gap s (larger_segment (width d) t) (foot_meets T v d (back t) f (f.plain.both t i) m))
+    (λ (m : MeetsAtEnds d t). foot_meets T v d t f i m)
+    (λ (m : MeetsAtEnds d (back t)). back_gap s (larger_segment (width d) t) (foot_meets T v d (back t) f (f.plain.both t i) m))
     g)
     (each_in (Tied d) T (f.plain.tied d f.low.there) t i)
 

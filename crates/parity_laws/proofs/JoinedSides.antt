@@ -10,7 +10,7 @@ use Rattle.parity_laws.proofs.Star.{those_within}
 use Rattle.parity_laws.proofs.Following.{follows}
 use Rattle.parity_laws.proofs.Orbits.{label_even}
 use Rattle.parity_laws.proofs.Neighbours.{no_two_holes}
-use Rattle.parity_laws.specs.Shelling.{IsRingOf}
+use Rattle.parity_laws.specs.Shelling.{IsRingLabel}
 use Rattle.parity_laws.specs.Coming.{both_ways_of, with_line, LineComes, Enters}
 use Rattle.parity_laws.proofs.RingAt.{rings_there}
 use Rattle.parity_laws.proofs.OnLine.{old_in, way_in, forth_in, back_in, last_in, line_label}
@@ -24,7 +24,7 @@ use Rattle.parity_laws.proofs.JoinedFaces.{TwoFaces}
 -- ---- the two rings
 -- a ring on one side of the line and a ring on the other side are two
 pub two_rings : (T : List Segment) (first : Segment) (rest : List Segment) (last : Segment) (F' F : Segment → ℕ) (l r k : ℕ) (p q : Segment → Bool) → TwoFaces T first rest last F' F l r k →
-    IsRingOf (with_line T (first ∷ rest)) p → IsRingOf (with_line T (first ∷ rest)) q → p first ≡ true → q (back first) ≡ true → Cut T first rest last p q
+    IsRingLabel (with_line T (first ∷ rest)) p → IsRingLabel (with_line T (first ∷ rest)) q → p first ≡ true → q (back first) ≡ true → Cut T first rest last p q
 two_rings T first rest last F' F l r k p q h ring ring' e f = record {
   p_rings = ring.ringwise;
   p_one = ring.one;
@@ -52,10 +52,10 @@ pub joins_rings : (T : List Segment) (first : Segment) (rest : List Segment) (la
     (p : Segment → Bool) × ((q : Segment → Bool) × ((R : Segment → Bool) × JoinsRings T first rest last F' F l r k p q R))
 joins_rings T first rest last F' F l r k h = by_rings (there first (forth_in (first ∷ rest) first (inl refl))) (there (back first) (back_in (first ∷ rest) first (inl refl)))
   where
-    there : (s : Segment) → In s (both_ways_of (first ∷ rest)) → (p : Segment → Bool) × (IsRingOf (with_line T (first ∷ rest)) p × (p s ≡ true))
+    there : (s : Segment) → In s (both_ways_of (first ∷ rest)) → (p : Segment → Bool) × (IsRingLabel (with_line T (first ∷ rest)) p × (p s ≡ true))
     there s i = rings_there (with_line T (first ∷ rest)) h.comes.new s (way_in T (first ∷ rest) s i)
 
-    by_rings : (p : Segment → Bool) × (IsRingOf (with_line T (first ∷ rest)) p × (p first ≡ true)) → (q : Segment → Bool) × (IsRingOf (with_line T (first ∷ rest)) q × (q (back first) ≡ true)) →
+    by_rings : (p : Segment → Bool) × (IsRingLabel (with_line T (first ∷ rest)) p × (p first ≡ true)) → (q : Segment → Bool) × (IsRingLabel (with_line T (first ∷ rest)) q × (q (back first) ≡ true)) →
         (p : Segment → Bool) × ((q : Segment → Bool) × ((R : Segment → Bool) × JoinsRings T first rest last F' F l r k p q R))
     by_rings p q =
         let cut = two_rings T first rest last F' F l r k p.0 q.0 h p.1.0 q.1.0 p.1.1 q.1.1 in
@@ -86,7 +86,7 @@ joined_left T first rest last p q R c cut ring = turned_round _ _ (parts_left T 
     turned_round false false e = cc
 
 -- an old ring is this one, or doesn't enter the line
-pub is_or_off : (T : List Segment) (first : Segment) (rest : List Segment) (last : Segment) (R u : Segment → Bool) → LineRing T (with_line T (first ∷ rest)) first last R → IsRingOf T u →
+pub is_or_off : (T : List Segment) (first : Segment) (rest : List Segment) (last : Segment) (R u : Segment → Bool) → LineRing T (with_line T (first ∷ rest)) first last R → IsRingLabel T u →
     ((t : Segment) → In t T → u t ≡ R t) ⊎ ((d : Segment) → In d T → u d ≡ true → Enters (with_line T (first ∷ rest)) first last d → ⊥)
 is_or_off T first rest last R u ring h = by_value (R h.step) refl
   where

@@ -10,7 +10,7 @@ use Rattle.plane.specs.RationalTests.{IsOn}
 use Rattle.plane.specs.Relation.{AreApart}
 use Rattle.plane.specs.Crossings.{back, larger, larger_segment, larger_spot, way}
 use Rattle.parity_laws.specs.Steps.{Each, Even, direction, above, left, before, above_at}
-use Rattle.parity_laws.specs.Ways.{Tied, Meets, Fork}
+use Rattle.parity_laws.specs.Ways.{Tied, MeetsAtEnds, Fork}
 use Rattle.parity_laws.specs.Rings.{In, Within, Once, those, Drawn, Ringwise, Sided, of_face}
 use Rattle.parity_laws.proofs.Cutting.{before_along, from_along}
 use Rattle.parity_laws.proofs.Scaling.{direction_larger, even_larger, left_larger, larger_is}
@@ -36,7 +36,7 @@ fork_larger k s t h f = record {
   apart = ⊎_elim (λ (a : before (direction t) (direction s) ≡ true). inl (before_larger k t s h ∙ a)) (λ (a : before (direction s) (direction t) ≡ true). inr (before_larger k s t h ∙ a)) f.apart;
 }
 
-meets_larger : (k : ℤ) (s t : Segment) → pos 0 <ℤ k → Meets s t → Meets (larger_segment k s) (larger_segment k t)
+meets_larger : (k : ℤ) (s t : Segment) → pos 0 <ℤ k → MeetsAtEnds s t → MeetsAtEnds (larger_segment k s) (larger_segment k t)
 meets_larger k s t h m =
     ⊎_elim
     (λ (e : (t.a ≡ s.a) × (t.b ≡ s.b)). inl (ap (larger k) e.0, ap (larger k) e.1))
@@ -48,8 +48,8 @@ tied_larger : (k : ℤ) (s t : Segment) → pos 0 <ℤ k → Tied s t → Tied (
 tied_larger k s t h tied =
     ⊎_elim
     (λ (c : AreApart t s). inl (λ r on. c (smaller_spot k h r) (on_smaller k h t r on.0, on_smaller k h s r on.1)))
-    (λ (g : Meets s t ⊎ Meets s (back t)).
-    inr (⊎_elim (λ (m : Meets s t). inl (meets_larger k s t h m)) (λ (m : Meets s (back t)). inr (meets_larger k s (back t) h m)) g))
+    (λ (g : MeetsAtEnds s t ⊎ MeetsAtEnds s (back t)).
+    inr (⊎_elim (λ (m : MeetsAtEnds s t). inl (meets_larger k s t h m)) (λ (m : MeetsAtEnds s (back t)). inr (meets_larger k s (back t) h m)) g))
     tied
 
 each_larger : (k : ℤ) (P Q : Segment → Type 0) → ((t : Segment) → P t → Q (larger_segment k t)) → (X : List Segment) → Each P X → Each Q (map (larger_segment k) X)

@@ -10,7 +10,7 @@ use Rattle.parity_laws.proofs.Sums.{xor_comm}
 use Rattle.parity_laws.proofs.Star.{those_within}
 use Rattle.parity_laws.proofs.Orbits.{label_even}
 use Rattle.parity_laws.specs.Coming.{both_ways_of, with_line, LineComes, Enters, FaceComes}
-use Rattle.parity_laws.specs.Shelling.{IsRingOf, IsShellOf, OneShell, NoShell}
+use Rattle.parity_laws.specs.Shelling.{IsRingLabel, IsShellOf, OneShell, NoShell}
 use Rattle.parity_laws.proofs.RingAt.{rings_there}
 use Rattle.parity_laws.proofs.OnLine.{old_in, way_in, forth_in, back_in, last_in, old_or_way, way_label, left_ringwise}
 use Rattle.parity_laws.proofs.LineFaces.{line_sided}
@@ -59,7 +59,7 @@ shell_off_line T first rest last F F' g q c same shell e f = record {
   is_left = sym (left_with_line T (first ∷ rest) q false off shell.ring.step) ∙ shell.is_left;
 }
   where
-    old : IsRingOf T q
+    old : IsRingLabel T q
     old = ring_off_line T first rest last q c shell.ring e f
 
     off : (s : Segment) → In s (both_ways_of (first ∷ rest)) → q s ≡ false
@@ -82,7 +82,7 @@ shell_stays T first rest last F F' g p p' c same shell is line off = record {
   is_left = left_with_line T (first ∷ rest) p' false line shell.ring.step ∙ ap (λ X. left X shell.ring.step) (those_same p' p T is) ∙ shell.is_left;
 }
   where
-    new : IsRingOf (with_line T (first ∷ rest)) p'
+    new : IsRingLabel (with_line T (first ∷ rest)) p'
     new = ring_stays T first rest last p p' c shell.ring is line off
 
 -- a line that comes in a face and has one ring on both of its sides
@@ -90,7 +90,7 @@ pub record OpenLine (T : List Segment) (first : Segment) (rest : List Segment) (
   pub comes : LineComes T first rest last
   pub faces : FaceComes T first rest last F F' f
   pub p : Segment → Bool
-  pub ring : IsRingOf (with_line T (first ∷ rest)) p
+  pub ring : IsRingLabel (with_line T (first ∷ rest)) p
   pub forth : p first ≡ true
   pub walked : p (back first) ≡ true
 
@@ -109,7 +109,7 @@ end_shell T first rest last F F' f e R c h r at is =
     r.near
 
 -- a ring of the new drawing is off the line, or has both directions of it
-off_or_on : (T : List Segment) (first : Segment) (rest : List Segment) (last : Segment) (F F' : Segment → ℕ) (f : ℕ) (q : Segment → Bool) → OpenLine T first rest last F F' f → IsRingOf (with_line T (first ∷ rest)) q →
+off_or_on : (T : List Segment) (first : Segment) (rest : List Segment) (last : Segment) (F F' : Segment → ℕ) (f : ℕ) (q : Segment → Bool) → OpenLine T first rest last F F' f → IsRingLabel (with_line T (first ∷ rest)) q →
     ((q first ≡ false) × (q (back first) ≡ false)) ⊎ ((q first ≡ true) × (q (back first) ≡ true))
 off_or_on T first rest last F F' f q o r = by_values (q first) (q (back first)) same
   where
@@ -164,7 +164,7 @@ FromEnds T T' q a b first s =
 -- the ring that has the line is a shell where one of the two rings that it joins is the only shell
 joined_shell : (T : List Segment) (first : Segment) (rest : List Segment) (last : Segment) (F F' : Segment → ℕ) (f : ℕ) → OpenLine T first rest last F F' f → (g : ℕ) (r : Segment → Bool) → (shell : IsShellOf T F g r) →
     ((u v : Segment → Bool) → IsShellOf T F g u → IsShellOf T F g v → (s : Segment) → In s T → u s ≡ v s) →
-    (q a b : Segment → Bool) (e e' : Segment) → IsRingOf (with_line T (first ∷ rest)) q → q first ≡ true → EndRing T (with_line T (first ∷ rest)) e a → EndRing T (with_line T (first ∷ rest)) e' b →
+    (q a b : Segment → Bool) (e e' : Segment) → IsRingLabel (with_line T (first ∷ rest)) q → q first ≡ true → EndRing T (with_line T (first ∷ rest)) e a → EndRing T (with_line T (first ∷ rest)) e' b →
     ((d : Segment) → Next (with_line T (first ∷ rest)) d e → Enters (with_line T (first ∷ rest)) first last d) → ((d : Segment) → Next (with_line T (first ∷ rest)) d e' → Enters (with_line T (first ∷ rest)) first last d) →
     a shell.ring.step ≡ true → FromEnds T (with_line T (first ∷ rest)) q a b first shell.ring.step → IsShellOf (with_line T (first ∷ rest)) F' g q
 joined_shell T first rest last F F' f o g r shell only q a b e e' ring on ra rb to to' mine from =
@@ -220,7 +220,7 @@ new_shell T first rest last F F' f o g h = (q.0, ⊎_elim off on (off_or_on T fi
     s : Segment
     s = h.shell.ring.step
 
-    q : (p : Segment → Bool) × (IsRingOf (with_line T (first ∷ rest)) p × (p h.shell.ring.step ≡ true))
+    q : (p : Segment → Bool) × (IsRingLabel (with_line T (first ∷ rest)) p × (p h.shell.ring.step ≡ true))
     q = rings_there (with_line T (first ∷ rest)) o.comes.new h.shell.ring.step (old_in T (first ∷ rest) h.shell.ring.step h.shell.ring.there)
 
     off : (q.0 first ≡ false) × (q.0 (back first) ≡ false) → IsShellOf (with_line T (first ∷ rest)) F' g q.0

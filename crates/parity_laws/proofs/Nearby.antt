@@ -16,7 +16,7 @@ use Rattle.plane.specs.Crossings.{back}
 use Rattle.plane.specs.Direction.{Direction, cross}
 use Rattle.plane.proofs.Middle.{not_zero}
 use Rattle.parity_laws.specs.Steps.{Each, Even, direction, rightward, first_of, before, above, left}
-use Rattle.parity_laws.specs.Ways.{Onward, Tied, Meets, Fork, Apart, inside, Outside}
+use Rattle.parity_laws.specs.Ways.{Onward, Tied, MeetsAtEnds, Fork, Apart, inside, Outside}
 use Rattle.parity_laws.specs.Walks.{NotAt}
 use Rattle.parity_laws.specs.Rings.{In, Within, SeesLeft}
 use Rattle.parity_laws.specs.Cuts.{Inner, first_part, last_part, parts, cut}
@@ -205,11 +205,11 @@ tied_first : (T : List Segment) (d t : Segment) (m q : Point) → SeesLeft T d m
 tied_first T d t m q s i n nb =
     ⊎_elim
     (λ (c : AreApart t d). inl (λ r on. c r (on.0, on_first d m r s.inner on.1)))
-    (λ (g : Meets d t ⊎ Meets d (back t)).
+    (λ (g : MeetsAtEnds d t ⊎ MeetsAtEnds d (back t)).
     ⊎_elim
-    (λ (h : Meets d t). ⊎_elim (λ (k : Meets (first_part d m) t). inr (inl k)) (λ (k : AreApart t (first_part d m)). inl k) (one t n (λ e. not_on (subst (λ p. IsOn (rational p) t) e (end_on t))) h))
-    (λ (h : Meets d (back t)).
-    ⊎_elim (λ (k : Meets (first_part d m) (back t)). inr (inr k)) (λ (k : AreApart (back t) (first_part d m)). inl (λ r on. k r (on_round t r on.0, on.1)))
+    (λ (h : MeetsAtEnds d t). ⊎_elim (λ (k : MeetsAtEnds (first_part d m) t). inr (inl k)) (λ (k : AreApart t (first_part d m)). inl k) (one t n (λ e. not_on (subst (λ p. IsOn (rational p) t) e (end_on t))) h))
+    (λ (h : MeetsAtEnds d (back t)).
+    ⊎_elim (λ (k : MeetsAtEnds (first_part d m) (back t)). inr (inr k)) (λ (k : AreApart (back t) (first_part d m)). inl (λ r on. k r (on_round t r on.0, on.1)))
     (one (back t) (λ e. nb (ap back e)) (λ e. not_on (subst (λ p. IsOn (rational p) t) e (start_on t))) h))
     g)
     (each_in (Tied d) T (s.plain.tied d s.there) t i)
@@ -217,7 +217,7 @@ tied_first T d t m q s i n nb =
     not_on : IsOn (rational m) t → ⊥
     not_on on = ⊎_elim (λ (e : t ≡ d). n e) (λ (e : t ≡ back d). nb e) (s.alone t i on)
 
-    one : (r : Segment) → r ≢ d → (r.b ≡ m → ⊥) → Meets d r → Meets (first_part d m) r ⊎ AreApart r (first_part d m)
+    one : (r : Segment) → r ≢ d → (r.b ≡ m → ⊥) → MeetsAtEnds d r → MeetsAtEnds (first_part d m) r ⊎ AreApart r (first_part d m)
     one r nr nm h =
         ⊎_elim
         (λ (e : (r.a ≡ d.a) × (r.b ≡ d.b)). absurd (nr (λ j. record { a = e.0 j; b = e.1 j })))

@@ -12,7 +12,7 @@ use Rattle.parity_laws.proofs.Sums.{xor_comm, xor_none, xor_self, odd_append}
 use Rattle.parity_laws.proofs.Ringwise.{in_each}
 use Rattle.parity_laws.proofs.Lists.{those_append, all_those, no_those}
 use Rattle.parity_laws.specs.Coming.{walked_back, both_ways_of, with_line, LineComes, Enters}
-use Rattle.parity_laws.specs.Shelling.{IsRingOf}
+use Rattle.parity_laws.specs.Shelling.{IsRingLabel}
 use Rattle.parity_laws.proofs.Wedges.{next_within}
 use Rattle.parity_laws.proofs.OnLine.{old_in, old_or_way, way_label}
 use Rattle.parity_laws.proofs.LineCorners.{Passes, stays_or_passes, old_ringwise, new_ringwise}
@@ -63,8 +63,8 @@ second_labels false b x y e f g = absurd (both_ways false refl e)
 
 -- ---- rings
 -- a ring of the new drawing that isn't on the line is a ring of the old one
-pub ring_off_line : (T : List Segment) (first : Segment) (rest : List Segment) (last : Segment) (q : Segment → Bool) → LineComes T first rest last → IsRingOf (with_line T (first ∷ rest)) q →
-    q first ≡ false → q (back first) ≡ false → IsRingOf T q
+pub ring_off_line : (T : List Segment) (first : Segment) (rest : List Segment) (last : Segment) (q : Segment → Bool) → LineComes T first rest last → IsRingLabel (with_line T (first ∷ rest)) q →
+    q first ≡ false → q (back first) ≡ false → IsRingLabel T q
 ring_off_line T first rest last q c r e f = record {
   ringwise = old_ringwise T first rest last q false c r.ringwise e f;
   one = one;
@@ -88,9 +88,9 @@ ring_off_line T first rest last q c r e f = record {
         s t (old_in T (first ∷ rest) s i) (old_in T (first ∷ rest) t j) g k)
 
 -- an old ring none of whose steps enters the line is a ring of the new drawing
-pub ring_stays : (T : List Segment) (first : Segment) (rest : List Segment) (last : Segment) (p p' : Segment → Bool) → LineComes T first rest last → IsRingOf T p →
+pub ring_stays : (T : List Segment) (first : Segment) (rest : List Segment) (last : Segment) (p p' : Segment → Bool) → LineComes T first rest last → IsRingLabel T p →
     ((s : Segment) → In s T → p' s ≡ p s) → ((s : Segment) → In s (both_ways_of (first ∷ rest)) → p' s ≡ false) →
-    ((d : Segment) → In d T → p d ≡ true → Enters (with_line T (first ∷ rest)) first last d → ⊥) → IsRingOf (with_line T (first ∷ rest)) p'
+    ((d : Segment) → In d T → p d ≡ true → Enters (with_line T (first ∷ rest)) first last d → ⊥) → IsRingLabel (with_line T (first ∷ rest)) p'
 ring_stays T first rest last p p' c r same line off = record {
   ringwise = new_ringwise T first rest last p' false c (λ d n i j next. same d i ∙ r.ringwise d n i j next ∙ sym (same n j)) line (λ d i enters. same d i ∙ entry d i enters (p d) refl);
   one = one;

@@ -84,31 +84,31 @@ times_none X s n m = odd_none (twin s) X (in_each (λ t. twin s t ≡ false) X (
 
 -- ---- inner vertices
 -- n follows m, and no other step begins between them
-pub record Joint (T : List Segment) (m n : Segment) : Type 0 where
+pub record LineJoint (T : List Segment) (m n : Segment) : Type 0 where
   pub meets : n.a ≡ m.b
   pub alone : (t : Segment) → In t T → t.a ≡ m.b → (t ≡ n) ⊎ (t ≡ back m)
 
-pub joint_before : (T : List Segment) (d : Segment) (X : List Segment) (z n : Segment) → Strung T d X z → In n (d ∷ X) → (n ≡ d) ⊎ ((m : Segment) × (In m (d ∷ X) × Joint T m n))
+pub joint_before : (T : List Segment) (d : Segment) (X : List Segment) (z n : Segment) → Strung T d X z → In n (d ∷ X) → (n ≡ d) ⊎ ((m : Segment) × (In m (d ∷ X) × LineJoint T m n))
 joint_before T d [] z n h i = ⊎_elim (λ (e : n ≡ d). inl e) (λ (k : ⊥). absurd k) i
 joint_before T d (k ∷ X) z n h i =
     ⊎_elim
     (λ (e : n ≡ d). inl e)
     (λ (j : In n (k ∷ X)).
     ⊎_elim
-    (λ (e : n ≡ k). inr (d, (inl refl, subst (λ q. Joint T d q) (sym e) (record { meets = h.0; alone = h.1 }))))
-    (λ (g : (m : Segment) × (In m (k ∷ X) × Joint T m n)). inr (g.0, (inr g.1.0, g.1.1)))
+    (λ (e : n ≡ k). inr (d, (inl refl, subst (λ q. LineJoint T d q) (sym e) (record { meets = h.0; alone = h.1 }))))
+    (λ (g : (m : Segment) × (In m (k ∷ X) × LineJoint T m n)). inr (g.0, (inr g.1.0, g.1.1)))
     (joint_before T k X z n h.2 j))
     i
 
-pub joint_after : (T : List Segment) (d : Segment) (X : List Segment) (z m : Segment) → Strung T d X z → In m (d ∷ X) → (m ≡ z) ⊎ ((n : Segment) × (In n (d ∷ X) × Joint T m n))
+pub joint_after : (T : List Segment) (d : Segment) (X : List Segment) (z m : Segment) → Strung T d X z → In m (d ∷ X) → (m ≡ z) ⊎ ((n : Segment) × (In n (d ∷ X) × LineJoint T m n))
 joint_after T d [] z m h i = ⊎_elim (λ (e : m ≡ d). inl (e ∙ h)) (λ (k : ⊥). absurd k) i
 joint_after T d (k ∷ X) z m h i =
     ⊎_elim
-    (λ (e : m ≡ d). inr (k, (inr (inl refl), subst (λ q. Joint T q k) (sym e) (record { meets = h.0; alone = h.1 }))))
+    (λ (e : m ≡ d). inr (k, (inr (inl refl), subst (λ q. LineJoint T q k) (sym e) (record { meets = h.0; alone = h.1 }))))
     (λ (j : In m (k ∷ X)).
     ⊎_elim
     (λ (e : m ≡ z). inl e)
-    (λ (g : (n : Segment) × (In n (k ∷ X) × Joint T m n)). inr (g.0, (inr g.1.0, g.1.1)))
+    (λ (g : (n : Segment) × (In n (k ∷ X) × LineJoint T m n)). inr (g.0, (inr g.1.0, g.1.1)))
     (joint_after T k X z m h.2 j))
     i
 
@@ -116,14 +116,14 @@ last_of_strung : (T : List Segment) (d : Segment) (X : List Segment) (z : Segmen
 last_of_strung T d [] z h = inl (sym h)
 last_of_strung T d (n ∷ X) z h = inr (last_of_strung T n X z h.2)
 
-joint_next : (T : List Segment) (m n : Segment) → Plain T → Joint T m n → Next T m n
+joint_next : (T : List Segment) (m n : Segment) → Plain T → LineJoint T m n → Next T m n
 joint_next T m n plain h = next_from T m n plain h.meets (λ t i e.
     ⊎_elim
     (λ (f : t ≡ n). subst (λ z. inside (direction (back m)) (direction n) (direction z) ≡ false) (sym f) (side_outside (direction (back m)) (direction n)).1)
     (λ (f : t ≡ back m). subst (λ z. inside (direction (back m)) (direction n) (direction z) ≡ false) (sym f) (side_outside (direction (back m)) (direction n)).0)
     (h.alone t i e))
 
-joint_back : (T : List Segment) (m n : Segment) → Plain T → Joint T m n → Next T (back n) (back m)
+joint_back : (T : List Segment) (m n : Segment) → Plain T → LineJoint T m n → Next T (back n) (back m)
 joint_back T m n plain h = next_from T (back n) (back m) plain (sym h.meets) (λ t i e.
     ⊎_elim
     (λ (f : t ≡ n). subst (λ z. inside (direction n) (direction (back m)) (direction z) ≡ false) (sym f) (side_outside (direction n) (direction (back m))).0)
@@ -139,7 +139,7 @@ strung_label T d (n ∷ X) z h plain rw' w s t i =
     (λ (e : t ≡ d). (ap h e, ap (λ k. h (back k)) e))
     (λ (j : In t (n ∷ X)).
     let rest = strung_label T n X z h plain rw' (λ q k. w q (inr k)) s.2 t j in
-    let joint : Joint T d n = record { meets = s.0; alone = s.1 } in (
+    let joint : LineJoint T d n = record { meets = s.0; alone = s.1 } in (
       rest.0 ∙ sym (rw' d n (w d (inl refl)) (w n (inr (inl refl))) (joint_next T d n plain joint)),
       rest.1 ∙ rw' (back n) (back d) (plain.both n (w n (inr (inl refl)))) (plain.both d (w d (inl refl))) (joint_back T d n plain joint),
     ))
@@ -226,7 +226,7 @@ enters_line T first rest last c d n i j e = ⊎_elim forth walked (way_cases (fi
     no_joint : (t : Segment) → In t (both_ways_of (first ∷ rest)) → back d ≡ t → ⊥
     no_joint t k f = not_both T first rest last c (back d) turned_there (subst (λ z. In z (both_ways_of (first ∷ rest))) (sym f) k)
 
-    not_inner : (m k : Segment) → In m (first ∷ rest) → In k (first ∷ rest) → Joint (with_line T (first ∷ rest)) m k → d.b ≡ m.b → ⊥
+    not_inner : (m k : Segment) → In m (first ∷ rest) → In k (first ∷ rest) → LineJoint (with_line T (first ∷ rest)) m k → d.b ≡ m.b → ⊥
     not_inner m k p q joint f =
         ⊎_elim
         (λ (g : back d ≡ k). no_joint k (forth_in (first ∷ rest) k q) g)
@@ -237,14 +237,14 @@ enters_line T first rest last c d n i j e = ⊎_elim forth walked (way_cases (fi
     forth k =
         ⊎_elim
         (λ (f : n ≡ first). inl f)
-        (λ (g : (m : Segment) × (In m (first ∷ rest) × Joint (with_line T (first ∷ rest)) m n)). absurd (not_inner g.0 n g.1.0 k g.1.1 (sym e ∙ g.1.1.meets)))
+        (λ (g : (m : Segment) × (In m (first ∷ rest) × LineJoint (with_line T (first ∷ rest)) m n)). absurd (not_inner g.0 n g.1.0 k g.1.1 (sym e ∙ g.1.1.meets)))
         (joint_before (with_line T (first ∷ rest)) first rest last n c.strung k)
 
     walked : In (back n) (first ∷ rest) → (n ≡ first) ⊎ (n ≡ back last)
     walked k =
         ⊎_elim
         (λ (f : back n ≡ last). inr (ap back f))
-        (λ (g : (m : Segment) × (In m (first ∷ rest) × Joint (with_line T (first ∷ rest)) (back n) m)). absurd (not_inner (back n) g.0 k g.1.0 g.1.1 (sym e)))
+        (λ (g : (m : Segment) × (In m (first ∷ rest) × LineJoint (with_line T (first ∷ rest)) (back n) m)). absurd (not_inner (back n) g.0 k g.1.0 g.1.1 (sym e)))
         (joint_after (with_line T (first ∷ rest)) first rest last (back n) c.strung k)
 
 -- left of an even list a label goes round corners

@@ -9,7 +9,7 @@ use Rattle.parity_laws.specs.Rings.{In, Next, those, Ringwise, Sided, of_face}
 use Rattle.parity_laws.proofs.Star.{those_within}
 use Rattle.parity_laws.proofs.Following.{follows}
 use Rattle.parity_laws.proofs.Orbits.{label_even}
-use Rattle.parity_laws.specs.Shelling.{IsRingOf}
+use Rattle.parity_laws.specs.Shelling.{IsRingLabel}
 use Rattle.parity_laws.proofs.FaceShells.{HasOnce, rings_meet_once}
 use Rattle.parity_laws.specs.Coming.{with_line, LineComes, Enters}
 use Rattle.parity_laws.proofs.RingAt.{rings_there}
@@ -53,10 +53,10 @@ face_above_end T first rest last F f e h end none g sided =
 
 -- ---- the ring of the line has it both ways
 pub one_ring : (T : List Segment) (first : Segment) (rest : List Segment) (last : Segment) (F : Segment → ℕ) (f : ℕ) (p : Segment → Bool) → OneFace T first rest last F f → HasOnce (with_line T (first ∷ rest)) F f →
-    IsRingOf (with_line T (first ∷ rest)) p → p first ≡ true → p (back first) ≡ true
+    IsRingLabel (with_line T (first ∷ rest)) p → p first ≡ true → p (back first) ≡ true
 one_ring T first rest last F f p h once ring e = by_ring (rings_there (with_line T (first ∷ rest)) h.comes.new (back first) (back_there T first rest)) (follows (with_line T (first ∷ rest)) h.comes.new.plain (back first) (back_there T first rest))
   where
-    by_ring : (q : Segment → Bool) × (IsRingOf (with_line T (first ∷ rest)) q × (q (back first) ≡ true)) → (n : Segment) × (In n (with_line T (first ∷ rest)) × Next (with_line T (first ∷ rest)) (back first) n) → p (back first) ≡ true
+    by_ring : (q : Segment → Bool) × (IsRingLabel (with_line T (first ∷ rest)) q × (q (back first) ≡ true)) → (n : Segment) × (In n (with_line T (first ∷ rest)) × Next (with_line T (first ∷ rest)) (back first) n) → p (back first) ≡ true
     by_ring q n =
         rings_meet_once (with_line T (first ∷ rest)) F f p q.0 first n.0 h.comes.new (rings_there (with_line T (first ∷ rest)) h.comes.new) once
         (record { ring = ring; there = first_there T first rest; mine = e; face = h.forth })

@@ -14,7 +14,7 @@ use Rattle.parity_laws.proofs.Star.{those_in, in_those, those_within}
 use Rattle.parity_laws.proofs.Orbits.{label_even}
 use Rattle.parity_laws.proofs.Shells.{first_left, shell_law}
 use Rattle.parity_laws.proofs.Splitting.{world, Top, highest}
-use Rattle.parity_laws.specs.Shelling.{IsRingOf}
+use Rattle.parity_laws.specs.Shelling.{IsRingLabel}
 use Rattle.parity_laws.specs.Coming.{both_ways_of, with_line, LineComes, Enters}
 use Rattle.parity_laws.proofs.OnLine.{old_in, forth_in, back_in, last_in, old_or_way}
 use Rattle.parity_laws.proofs.LineFaces.{left_on_line}
@@ -35,7 +35,7 @@ pub record PartsRing (T : List Segment) (first : Segment) (rest : List Segment) 
   pub at_first : EndRing T (with_line T (first ∷ rest)) first a
   pub at_last : EndRing T (with_line T (first ∷ rest)) (back last) b
 
-pub parts_ring : (T : List Segment) (first : Segment) (rest : List Segment) (last : Segment) (p : Segment → Bool) → LineComes T first rest last → IsRingOf (with_line T (first ∷ rest)) p → p first ≡ true → p (back first) ≡ true →
+pub parts_ring : (T : List Segment) (first : Segment) (rest : List Segment) (last : Segment) (p : Segment → Bool) → LineComes T first rest last → IsRingLabel (with_line T (first ∷ rest)) p → p first ≡ true → p (back first) ≡ true →
     (a : Segment → Bool) × ((b : Segment → Bool) × PartsRing T first rest last p a b)
 parts_ring T first rest last p c ring e f =
     let a = end_ring T first rest last first c (forth_in (first ∷ rest) first (inl refl)) in
@@ -87,7 +87,7 @@ pub last_part_left : (T : List Segment) (first : Segment) (rest : List Segment) 
 last_part_left T first rest last p a b h s i m = end_ring_left T first rest last (back last) b h.comes h.at_last (λ d next. inr next) s i m
 
 -- an old ring is one of the two, or doesn't enter the line
-pub is_part_or_off : (T : List Segment) (first : Segment) (rest : List Segment) (last : Segment) (p a b u : Segment → Bool) → PartsRing T first rest last p a b → (ring : IsRingOf T u) →
+pub is_part_or_off : (T : List Segment) (first : Segment) (rest : List Segment) (last : Segment) (p a b u : Segment → Bool) → PartsRing T first rest last p a b → (ring : IsRingLabel T u) →
     (a ring.step ≡ true) ⊎ ((b ring.step ≡ true) ⊎ OffLine T first rest last u)
 is_part_or_off T first rest last p a b u h ring = by_values (a ring.step) (b ring.step) refl refl
   where

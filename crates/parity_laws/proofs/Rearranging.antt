@@ -8,7 +8,7 @@ use Rattle.parity_laws.specs.Steps.{odd, above, turned, left, direction, leaves_
 use Rattle.parity_laws.specs.Ways.{Outside}
 use Rattle.parity_laws.specs.Rings.{Next, Within, those, Ringwise, OneRing, Sided}
 use Rattle.parity_laws.proofs.Ringwise.{each_in, in_each}
-use Rattle.parity_laws.specs.Shelling.{IsRingOf, IsShellOf, OneShell, NoShell}
+use Rattle.parity_laws.specs.Shelling.{IsRingLabel, IsShellOf, OneShell, NoShell}
 
 -- U has the steps of T, and each sum over labelled steps is the same
 pub record Rearranged (T U : List Segment) : Type 0 where
@@ -40,7 +40,7 @@ same_ringwise T U label r h d n i j next = h d n (r.back d i) (r.back n j) (same
 pub same_one : (T U : List Segment) (p : Segment → Bool) → Rearranged T U → OneRing T p → OneRing U p
 same_one T U p r one h ringwise s t i j ps pt = one h (same_ringwise U T h (rearranged_back T U r) ringwise) s t (r.back s i) (r.back t j) ps pt
 
-abbrev pub same_ring : (T U : List Segment) (p : Segment → Bool) → Rearranged T U → IsRingOf T p → IsRingOf U p
+abbrev pub same_ring : (T U : List Segment) (p : Segment → Bool) → Rearranged T U → IsRingLabel T p → IsRingLabel U p
 same_ring T U p r h = record { ringwise = same_ringwise T U p r h.ringwise; one = same_one T U p r h.one; step = h.step; there = r.there h.step h.there; mine = h.mine }
 
 pub same_shell : (T U : List Segment) (F : Segment → ℕ) (f : ℕ) (p : Segment → Bool) → Rearranged T U → IsShellOf T F f p → IsShellOf U F f p

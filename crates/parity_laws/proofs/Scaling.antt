@@ -42,7 +42,7 @@ larger_is k p q h e =
     let ey = cancel p.y q.y k (mul_comm p.y k ∙ ap (λ (z : Point). z.y) e ∙ mul_comm k q.y) (λ z. omega (arith, signed)) in
     λ j. record { x = ex j; y = ey j }
 
-area_larger : (k : ℤ) (a b q : Point) → area (larger k a) (larger k b) (larger k q) ≡ k *ℤ (k *ℤ area a b q)
+pub area_larger : (k : ℤ) (a b q : Point) → area (larger k a) (larger k b) (larger k q) ≡ k *ℤ (k *ℤ area a b q)
 area_larger k a b q = plain k a.x a.y b.x b.y q.x q.y
   where
     plain : (k ax ay bx by x y : ℤ) → ((k *ℤ bx) -ℤ (k *ℤ ax)) *ℤ ((k *ℤ y) -ℤ (k *ℤ ay)) -ℤ ((k *ℤ by) -ℤ (k *ℤ ay)) *ℤ ((k *ℤ x) -ℤ (k *ℤ ax)) ≡ k *ℤ (k *ℤ ((bx -ℤ ax) *ℤ (y -ℤ ay) -ℤ (by -ℤ ay) *ℤ (x -ℤ ax)))

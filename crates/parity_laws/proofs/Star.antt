@@ -9,7 +9,7 @@ use Rattle.plane.specs.Crossings.{back}
 use Rattle.topo_base.specs.Point.{same_point, Point}
 use Rattle.plane.specs.Direction.{Direction}
 use Rattle.parity_laws.specs.Steps.{direction, before, times, Each}
-use Rattle.parity_laws.specs.Ways.{Tied, Meets, Fork, Apart, Outside}
+use Rattle.parity_laws.specs.Ways.{Tied, MeetsAtEnds, Fork, Apart, Outside}
 use Rattle.parity_laws.specs.Rings.{In, Next, Plain, Within, those, has, Once, First}
 use Rattle.parity_laws.proofs.Sums.{xor_self, odd_both, odd_none, equal}
 use Rattle.parity_laws.proofs.Tests.{same_self, same_is, exact_is, exact_self}
@@ -76,9 +76,9 @@ pub same_start : (T : List Segment) (s t : Segment) → Plain T → In s T → I
 same_start T s t plain i j e =
     ⊎_elim
     (λ (c : AreApart t s). absurd (ends_differ t s t.a s.a c (start_on t) (start_on s) e))
-    (λ (g : Meets s t ⊎ Meets s (back t)).
+    (λ (g : MeetsAtEnds s t ⊎ MeetsAtEnds s (back t)).
     ⊎_elim
-    (λ (m : Meets s t).
+    (λ (m : MeetsAtEnds s t).
     ⊎_elim
     (λ (h : (t.a ≡ s.a) × (t.b ≡ s.b)). inl (λ k. record { a = h.0 k; b = h.1 k }))
     (λ (f : Fork s t ⊎ Fork (back s) t).
@@ -87,7 +87,7 @@ same_start T s t plain i j e =
     (λ (k : Fork (back s) t). absurd (plain.proper s i (sym e ∙ k.start)))
     f)
     m)
-    (λ (m : Meets s (back t)).
+    (λ (m : MeetsAtEnds s (back t)).
     ⊎_elim
     (λ (h : (t.b ≡ s.a) × (t.a ≡ s.b)). absurd (plain.proper t j (e ∙ sym h.0)))
     (λ (f : Fork s (back t) ⊎ Fork (back s) (back t)).

@@ -18,7 +18,7 @@ use Rattle.plane.specs.Crossings.{over, back, crosses}
 use Rattle.plane.specs.Parity.{xor}
 use Rattle.plane.specs.Direction.{Direction, cross}
 use Rattle.parity_laws.specs.Steps.{Even, direction, rightward, first_of, before, leaves_before, above, turned, left}
-use Rattle.parity_laws.specs.Ways.{Tied, Meets, Fork, Apart, Outside}
+use Rattle.parity_laws.specs.Ways.{Tied, MeetsAtEnds, Fork, Apart, Outside}
 use Rattle.parity_laws.specs.Rings.{In, Plain, Within, Drawn}
 use Rattle.parity_laws.proofs.Sums.{xor_none, odd_both, odd_each, xor_yes_no, xor_no_yes, xor_neither, xor_four}
 use Rattle.parity_laws.proofs.Tests.{same_self, same_is, same_not, area_cycle, not_and_parts, and_third, same_half}
@@ -162,15 +162,15 @@ begins_there T v d t plain i j hd ht e z =
     let wide' : d.a.x <ℤ d.b.x = omega (arith, signed) in
     ⊎_elim
     (λ (f : AreApart d t). absurd (f (rational d.a) (start_on d, on_between t d.a wide (omega (arith, signed)) (omega (arith, signed)) z)))
-    (λ (f : Meets t d ⊎ Meets t (back d)).
+    (λ (f : MeetsAtEnds t d ⊎ MeetsAtEnds t (back d)).
     ⊎_elim
-    (λ (g : Meets t d).
+    (λ (g : MeetsAtEnds t d).
     ⊎_elim
     (λ (h : (d.a ≡ t.a) × (d.b ≡ t.b)). sym h.0)
     (λ (h : Fork t d ⊎ Fork (back t) d).
     ⊎_elim (λ (k : Fork t d). sym k.start) (λ (k : Fork (back t) d). let x = ap (λ (p : Point). p.x) k.start in absurd (omega (arith, signed))) h)
     g)
-    (λ (g : Meets t (back d)).
+    (λ (g : MeetsAtEnds t (back d)).
     ⊎_elim
     (λ (h : (d.b ≡ t.a) × (d.a ≡ t.b)). let x = ap (λ (p : Point). p.x) h.1 in absurd (omega (arith, signed)))
     (λ (h : Fork t (back d) ⊎ Fork (back t) (back d)).

@@ -1,7 +1,7 @@
 -- Wedges beside each other, and the step before each step.
 use Rattle.std.proofs.Common.{◌≡◌, ◌≢◌, refl, sym, ◌∙◌, subst, ⊎_elim, Bool, true, false, not, cond, ◌&&◌, List}
 use Rattle.std.specs.Prelude.{◌||◌}
-use Rattle.std.proofs.lemmas.Bool.{both_ways, and_parts, and_from}
+use Rattle.std.proofs.lemmas.Bool.{both_ways, and_parts, and_from, or_parts}
 use Rattle.topo_base.specs.Point.{same_point}
 use Rattle.plane.specs.Direction.{Direction}
 use Rattle.plane.specs.Segment.{Segment}
@@ -37,10 +37,6 @@ side_outside u w = by_tests (before u w) (before u u) (before w w) (before_self 
     by_tests a false true e f = absurd (both_ways true f refl)
 
 -- ---- two wedges beside each other
-or_none : (a b : Bool) → (a || b) ≡ false → (a ≡ false) × (b ≡ false)
-or_none true b e = absurd (both_ways true e refl)
-or_none false b e = (refl, e)
-
 -- what is outside the wedge from u to e and outside that from e to w, and is apart from e, is outside the wedge from u to w
 pub wedges_joined : (u e w x : Direction) → inside u e x ≡ false → inside e w x ≡ false → inside u e w ≡ false → inside e w u ≡ false → Apart x e → inside u w x ≡ false
 wedges_joined u e w x p q r s h =
@@ -73,9 +69,9 @@ wedges_joined u e w x p q r s h =
     by_tests : (ue ew uw ux xe ex xw we eu : Bool) → xe ≡ not ex → (ue ≡ true → ew ≡ true → uw ≡ true) → cond ue (ux && xe) (ux || xe) ≡ false → cond ew (ex && xw) (ex || xw) ≡ false →
         cond ue (uw && we) (uw || we) ≡ false → cond ew (eu && uw) (eu || uw) ≡ false → cond uw (ux && xw) (ux || xw) ≡ false
     by_tests true true uw ux xe ex xw we eu a b p q r s = rw (b refl refl) (middle ux xe ex xw a p q)
-    by_tests true false uw ux xe ex xw we eu a b p q r s = rw ((or_none eu uw s).1) (late ux xe ex xw a p q)
-    by_tests false true uw ux xe ex xw we eu a b p q r s = rw ((or_none uw we r).0) (early ux xe ex xw a p q)
-    by_tests false false uw ux xe ex xw we eu a b p q r s = rw ((or_none uw we r).0) (never ux xe ex xw a p q)
+    by_tests true false uw ux xe ex xw we eu a b p q r s = rw ((or_parts eu uw s).1) (late ux xe ex xw a p q)
+    by_tests false true uw ux xe ex xw we eu a b p q r s = rw ((or_parts uw we r).0) (early ux xe ex xw a p q)
+    by_tests false false uw ux xe ex xw we eu a b p q r s = rw ((or_parts uw we r).0) (never ux xe ex xw a p q)
 
 -- d is followed by e in T, and e walked back by n; without e, d is followed by n
 pub next_over : (X T : List Segment) (d e n : Segment) → Plain X → Plain T → Within X T → In d T → In e T → In n T → (In e X → ⊥) → Next T d e → Next T (back e) n → Next X d n

@@ -11,7 +11,7 @@ use Rattle.plane.specs.RationalTests.{IsOn}
 use Rattle.plane.specs.Relation.{AreApart}
 use Rattle.plane.specs.Crossings.{back}
 use Rattle.parity_laws.specs.Steps.{Each}
-use Rattle.parity_laws.specs.Ways.{Tied, Meets, Fork}
+use Rattle.parity_laws.specs.Ways.{Tied, MeetsAtEnds, Fork}
 use Rattle.parity_laws.specs.Walks.{NotAt}
 use Rattle.parity_laws.specs.Cuts.{Inner, first_part, last_part, parts, cut}
 use Rattle.parity_laws.specs.Rings.{In, Within, Plain, Once, those}
@@ -23,7 +23,7 @@ use Rattle.parity_laws.proofs.Forks.{fork_only}
 use Rattle.parity_laws.proofs.Nearby.{Pieces}
 
 -- m is inside the step d of T, and what T becomes where d is cut there is plain again
-pub record IsCut (T : List Segment) (d : Segment) (m : Point) : Type 0 where
+pub record IsStepCut (T : List Segment) (d : Segment) (m : Point) : Type 0 where
   pub plain : Plain T
   pub once : Once T
   pub there : In d T
@@ -45,12 +45,12 @@ abbrev pub end_of : Segment → Point → Segment → Segment
 end_of d m t = cond (exact d t) (last_part d m) (cond (exact (back d) t) (last_part (back d) m) t)
 
 -- ---- m is on no other step
-pub alone : (T : List Segment) (d : Segment) (m : Point) → IsCut T d m → (t : Segment) → In t T → IsOn (rational m) t → (t ≡ d) ⊎ (t ≡ back d)
+pub alone : (T : List Segment) (d : Segment) (m : Point) → IsStepCut T d m → (t : Segment) → In t T → IsOn (rational m) t → (t ≡ d) ⊎ (t ≡ back d)
 alone T d m h t i on =
     ⊎_elim
     (λ (c : AreApart t d). absurd (c (rational m) (on, on_d)))
-    (λ (g : Meets d t ⊎ Meets d (back t)).
-    ⊎_elim (λ (k : Meets d t). inl (one t on k)) (λ (k : Meets d (back t)). inr (ap back (one (back t) (on_round t (rational m) on) k))) g)
+    (λ (g : MeetsAtEnds d t ⊎ MeetsAtEnds d (back t)).
+    ⊎_elim (λ (k : MeetsAtEnds d t). inl (one t on k)) (λ (k : MeetsAtEnds d (back t)). inr (ap back (one (back t) (on_round t (rational m) on) k))) g)
     (each_in (Tied d) T (h.plain.tied d h.there) t i)
   where
     on_d : IsOn (rational m) d
@@ -62,7 +62,7 @@ alone T d m h t i on =
         let ey = sym (times_one m.y) ∙ e.1 ∙ times_one p.y in
         λ j. record { x = ex j; y = ey j }
 
-    one : (r : Segment) → IsOn (rational m) r → Meets d r → r ≡ d
+    one : (r : Segment) → IsOn (rational m) r → MeetsAtEnds d r → r ≡ d
     one r on k =
         ⊎_elim
         (λ (e : (r.a ≡ d.a) × (r.b ≡ d.b)). λ j. record { a = e.0 j; b = e.1 j })
@@ -74,7 +74,7 @@ alone T d m h t i on =
         k
 
 -- no step of T begins or ends at m
-pub no_vertex : (T : List Segment) (d : Segment) (m : Point) → IsCut T d m → (t : Segment) → In t T → NotAt m t
+pub no_vertex : (T : List Segment) (d : Segment) (m : Point) → IsStepCut T d m → (t : Segment) → In t T → NotAt m t
 no_vertex T d m h t i = (λ e. start e (alone T d m h t i (subst (λ p. IsOn (rational p) t) e (start_on t))), λ e. end e (alone T d m h t i (subst (λ p. IsOn (rational p) t) e (end_on t))))
   where
     start : t.a ≡ m → (t ≡ d) ⊎ (t ≡ back d) → ⊥
@@ -210,24 +210,24 @@ wholes d m h n = record {
     neither : (u : Segment) → exact (first_part d m) u ≡ false → exact (last_part d m) u ≡ false → exact (first_part (back d) m) u ≡ false → exact (last_part (back d) m) u ≡ false → whole d m u ≡ u
     neither u e f g k = rw (e, f, g, k)
 
-pub wholes_of : (T : List Segment) (d : Segment) (m : Point) → IsCut T d m → Wholes d m
+pub wholes_of : (T : List Segment) (d : Segment) (m : Point) → IsStepCut T d m → Wholes d m
 wholes_of T d m h = wholes d m h.inner (h.plain.proper d h.there)
 
-pub whole_begin : (T : List Segment) (d : Segment) (m : Point) → IsCut T d m → (t : Segment) → In t T → whole d m (begin_of d m t) ≡ t
+pub whole_begin : (T : List Segment) (d : Segment) (m : Point) → IsStepCut T d m → (t : Segment) → In t T → whole d m (begin_of d m t) ≡ t
 whole_begin T d m h t i =
     let w = wholes_of T d m h in
     chosen_for (λ z. whole d m z ≡ t) d (first_part d m) (first_part (back d) m) t (λ e. w.first ∙ e) (λ e. w.back_first ∙ e) (w.other t (no_vertex T d m h t i))
 
-pub whole_end : (T : List Segment) (d : Segment) (m : Point) → IsCut T d m → (t : Segment) → In t T → whole d m (end_of d m t) ≡ t
+pub whole_end : (T : List Segment) (d : Segment) (m : Point) → IsStepCut T d m → (t : Segment) → In t T → whole d m (end_of d m t) ≡ t
 whole_end T d m h t i =
     let w = wholes_of T d m h in
     chosen_for (λ z. whole d m z ≡ t) d (last_part d m) (last_part (back d) m) t (λ e. w.last ∙ e) (λ e. w.back_last ∙ e) (w.other t (no_vertex T d m h t i))
 
-pub whole_there : (T : List Segment) (d : Segment) (m : Point) → IsCut T d m → (u : Segment) → In u (cut d m T) → In (whole d m u) T
+pub whole_there : (T : List Segment) (d : Segment) (m : Point) → IsStepCut T d m → (u : Segment) → In u (cut d m T) → In (whole d m u) T
 whole_there T d m h = part_is (λ u. In (whole d m u) T) d m T (λ t i. subst (λ z. In z T) (sym (whole_begin T d m h t i)) i) (λ t i. subst (λ z. In z T) (sym (whole_end T d m h t i)) i)
 
 -- each step of the cut list is a part of its whole
-pub part_of : (T : List Segment) (d : Segment) (m : Point) → IsCut T d m → (u : Segment) → In u (cut d m T) → (u ≡ begin_of d m (whole d m u)) ⊎ (u ≡ end_of d m (whole d m u))
+pub part_of : (T : List Segment) (d : Segment) (m : Point) → IsStepCut T d m → (u : Segment) → In u (cut d m T) → (u ≡ begin_of d m (whole d m u)) ⊎ (u ≡ end_of d m (whole d m u))
 part_of T d m h =
     part_is (λ u. (u ≡ begin_of d m (whole d m u)) ⊎ (u ≡ end_of d m (whole d m u))) d m T
     (λ t i. inl (ap (begin_of d m) (sym (whole_begin T d m h t i))))
@@ -240,7 +240,7 @@ pub record Ends (d : Segment) (m : Point) : Type 0 where
   pub back_first : begin_of d m (back d) ≡ first_part (back d) m
   pub back_last : end_of d m (back d) ≡ last_part (back d) m
 
-pub ends_of : (T : List Segment) (d : Segment) (m : Point) → IsCut T d m → Ends d m
+pub ends_of : (T : List Segment) (d : Segment) (m : Point) → IsStepCut T d m → Ends d m
 ends_of T d m h = record {
   first = rw (exact_self d);
   last = rw (exact_self d);
@@ -251,7 +251,7 @@ ends_of T d m h = record {
     turned : exact d (back d) ≡ false
     turned = other_start d (back d) (λ e. h.plain.proper d h.there (sym e))
 
-pub pieces_there : (T : List Segment) (d : Segment) (m : Point) → IsCut T d m → Pieces (λ u. In u (cut d m T)) d m
+pub pieces_there : (T : List Segment) (d : Segment) (m : Point) → IsStepCut T d m → Pieces (λ u. In u (cut d m T)) d m
 pieces_there T d m h =
     let e = ends_of T d m h in
     let i = h.plain.both d h.there in
@@ -274,7 +274,7 @@ other_there d m X t i n k =
 
 -- ---- labels
 -- the parts with the label of their step are the parts of the steps with the label
-pub those_cut : (T : List Segment) (d : Segment) (m : Point) (label : Segment → Bool) → IsCut T d m → (X : List Segment) → Within X T → those (λ u. label (whole d m u)) (cut d m X) ≡ cut d m (those label X)
+pub those_cut : (T : List Segment) (d : Segment) (m : Point) (label : Segment → Bool) → IsStepCut T d m → (X : List Segment) → Within X T → those (λ u. label (whole d m u)) (cut d m X) ≡ cut d m (those label X)
 those_cut T d m label h [] w = refl
 those_cut T d m label h (t ∷ X) w =
     those_append label' (parts d m t) (cut d m X)

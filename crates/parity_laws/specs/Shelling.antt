@@ -5,7 +5,7 @@ use Rattle.parity_laws.specs.Steps.{left}
 use Rattle.parity_laws.specs.Rings.{In, those, Ringwise, OneRing}
 
 -- p is a ring of T, and has the given step
-pub record IsRingOf (T : List Segment) (p : Segment → Bool) : Type 0 where
+pub record IsRingLabel (T : List Segment) (p : Segment → Bool) : Type 0 where
   pub ringwise : Ringwise T p
   pub one : OneRing T p
   pub step : Segment
@@ -14,7 +14,7 @@ pub record IsRingOf (T : List Segment) (p : Segment → Bool) : Type 0 where
 
 -- p is a ring of T in the face f, and its own parity left of it is 1
 pub record IsShellOf (T : List Segment) (F : Segment → ℕ) (f : ℕ) (p : Segment → Bool) : Type 0 where
-  pub ring : IsRingOf T p
+  pub ring : IsRingLabel T p
   pub face : F ring.step ≡ f
   pub is_left : left (those p T) ring.step ≡ true
 
@@ -29,5 +29,5 @@ abbrev pub NoShell : List Segment → (Segment → ℕ) → ℕ → Type 0
 NoShell T F f = (p : Segment → Bool) → IsShellOf T F f p → ⊥
 
 -- each step of T is on a ring
-abbrev pub HasRings : List Segment → Type 0
-HasRings T = (s : Segment) → In s T → (p : Segment → Bool) × (IsRingOf T p × (p s ≡ true))
+abbrev pub HasRingLabels : List Segment → Type 0
+HasRingLabels T = (s : Segment) → In s T → (p : Segment → Bool) × (IsRingLabel T p × (p s ≡ true))

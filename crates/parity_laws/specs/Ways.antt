@@ -24,12 +24,12 @@ pub record Fork (s t : Segment) : Type 0 where
   pub apart : Apart (direction t) (direction s)
 
 -- t meets s at its ends alone, if at all
-abbrev pub Meets : Segment → Segment → Type 0
-Meets s t = ((t.a ≡ s.a) × (t.b ≡ s.b)) ⊎ (Fork s t ⊎ Fork (back s) t)
+abbrev pub MeetsAtEnds : Segment → Segment → Type 0
+MeetsAtEnds s t = ((t.a ≡ s.a) × (t.b ≡ s.b)) ⊎ (Fork s t ⊎ Fork (back s) t)
 
 -- s and t are one step, in any direction, or have no common rational point but a common end
 abbrev pub Tied : Segment → Segment → Type 0
-Tied s t = AreApart t s ⊎ (Meets s t ⊎ Meets s (back t))
+Tied s t = AreApart t s ⊎ (MeetsAtEnds s t ⊎ MeetsAtEnds s (back t))
 
 -- d is strictly inside the wedge from u clockwise to w; where u is w this is the full turn
 abbrev pub inside : Direction → Direction → Direction → Bool

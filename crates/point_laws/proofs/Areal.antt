@@ -7,7 +7,7 @@ use Rattle.std.specs.List.{Contains, list_any}
 use Rattle.std.proofs.lemmas.Bool.{and_parts, false≢true}
 use Rattle.std.proofs.lemmas.Bool.Decides.{Decides-and, Decides-int_eq}
 use Rattle.topo_base.specs.Point.{Point}
-use Rattle.topo_base.specs.RationalPoint.{RationalPoint, rational, IsAt, SamePoint}
+use Rattle.topo_base.specs.RationalPoint.{RationalPoint, IsAt}
 use Rattle.topo_base.specs.declared.kind.Kind.TheVariants.{Areal}
 use Rattle.topo_base.specs.declared.rows.NodeRow.{NodeRow}
 use Rattle.drawing.specs.Drawing.{Drawing, Edge, has_face, is_end_of, is_isolated}
@@ -25,7 +25,6 @@ use Rattle.plane.proofs.PointTests.{Decides-between}
 use Rattle.plane.specs.Segment.{Segment}
 use Rattle.plane.specs.Segment.{is_between}
 use Rattle.plane.proofs.SegmentParts.{start_on, end_on}
-use Rattle.plane.proofs.Signs.{times_one}
 use Rattle.face_rings.proofs.FaceBorders.{has_plain_lines}
 use Rattle.face_rings.proofs.HalfLines.{HasPlainLines}
 use Rattle.ring_laws.proofs.Known.{isolated_if, none_ends}
@@ -35,6 +34,7 @@ use Rattle.face_laws.specs.Walked.{steps_of}
 use Rattle.face_laws.proofs.Covering.{known, faces_given, covered_faced}
 use Rattle.face_laws.proofs.FaceParity.{in_face_at_is}
 use Rattle.face_laws.proofs.InFace.{in_by}
+use Rattle.face_laws.proofs.Tying.{at_rational}
 use Rattle.local_laws.proofs.Inside.{above_same}
 use Rattle.subdivision_laws.specs.Subdivided.{IsSubdivided}
 
@@ -50,9 +50,6 @@ last_on (a ∷ []) q h at = absurd (omega arith)
 last_on (a ∷ b ∷ []) q h at = (_, (contains_here _ [], end_on _ q at))
 last_on (a ∷ b ∷ c ∷ rest) q h at = let (s, (i, on)) = last_on (b ∷ c ∷ rest) q (omega arith) at in (s, (contains_there s _ (segments_of (b ∷ c ∷ rest)) i, on))
 
-pub same_at : (p : Point) (q : RationalPoint) → IsAt p q → SamePoint q (rational p)
-same_at p q at = (times_one q.x ∙ at.0, times_one q.y ∙ at.1)
-
 -- ---- what is decided of a rational point
 decided : (b : Bool) (P : Type 0) → Decides b P → P ⊎ (P → ⊥)
 decided true P d = inl (d.0 refl)
@@ -64,9 +61,6 @@ is_at p q = int_eq q.x (p.x *ℤ q.d) && int_eq q.y (p.y *ℤ q.d)
 Decides-is_at : (p : Point) (q : RationalPoint) → Decides (is_at p q) (IsAt p q)
 unfolding is_at
 Decides-is_at p q = Decides-and (int_eq q.x (p.x *ℤ q.d)) (int_eq q.y (p.y *ℤ q.d)) (Decides-int_eq q.x (p.x *ℤ q.d)) (Decides-int_eq q.y (p.y *ℤ q.d))
-
-pub at_or_not : (p : Point) (q : RationalPoint) → IsAt p q ⊎ (IsAt p q → ⊥)
-at_or_not p q = decided (is_at p q) (IsAt p q) (Decides-is_at p q)
 
 pub at_some_node : (S : Drawing) (q : RationalPoint) → Some_of (λ (n : NodeRow). IsAt n.geom q) S.nodes ⊎ (Some_of (λ (n : NodeRow). IsAt n.geom q) S.nodes → ⊥)
 at_some_node S q = decided _ _ (Decides-any (λ (n : NodeRow). is_at n.geom q) (λ (n : NodeRow). IsAt n.geom q) (λ n. Decides-is_at n.geom q) S.nodes)
@@ -118,7 +112,7 @@ contained_in S n f q s c own at =
     in_by S q f
     (λ g some.
     sym (in_face_at_is (face_of S) S g q (faces_given S (has_plain_lines S s.covered.ringed.rings)))
-    ∙ above_same (those (of_face (face_of S) g) (steps_of S)) n.geom q (same_at n.geom q at)
+    ∙ above_same (those (of_face (face_of S) g) (steps_of S)) n.geom q (at_rational n.geom q at)
     ∙ s.covered.placed n f c own g some)
     (and_parts (is_isolated S n.node_id) (has_face S f) (ap (λ o. is_face_known S o (is_isolated S n.node_id)) (sym own) ∙ node_is_known S n s c)).1
 

@@ -1,5 +1,5 @@
 -- The parity over a point is the same where a line is cut in two.
-use Rattle.std.proofs.Common.{◌≡◌, ◌≢◌, ◌∙◌, ℕ, arith, refl, sym, ap, ℤ, pos, ◌-ℤ◌, ◌*ℤ◌, ◌<ℤ◌, ◌≤ℤ◌, inl, inr, ⊎_elim, Bool, true, false, cond, not, ◌==◌, eq-eqb, List, [], ◌∷◌, ◌++◌, filter}
+use Rattle.std.proofs.Common.{◌≡◌, ◌≢◌, ◌∙◌, ℕ, refl, sym, ap, ℤ, pos, ◌*ℤ◌, ◌<ℤ◌, inl, inr, ⊎_elim, Bool, true, false, cond, not, ◌==◌, eq-eqb, List, [], ◌∷◌, ◌++◌, filter}
 use Rattle.std.specs.Prelude.{flat_map}
 use Rattle.std.specs.List.{Contains}
 use Rattle.std.proofs.lemmas.Bool.{ne_eqb}
@@ -10,7 +10,6 @@ use Rattle.drawing.specs.Drawing.{Edge, edge_id_of}
 use Rattle.plane.specs.Parity.{xor}
 use Rattle.drawing.specs.Faces.{is_border}
 use Rattle.plane.specs.Line.{segments_of, line_from, line_up_to}
-use Rattle.plane.specs.Orientation.{area}
 use Rattle.plane.specs.RationalTests.{IsOn, is_over_at, is_odd_over_at}
 use Rattle.plane.specs.Relation.{SameCoordinates}
 use Rattle.drawing.specs.Rows.{with_change, without_row}
@@ -23,30 +22,18 @@ use Rattle.drawing.proofs.Members.{Pairwise}
 use Rattle.plane.proofs.ParityStaying.{over_is}
 use Rattle.drawing.proofs.PlainSplits.{EdgeIdsDiffer, one_point}
 use Rattle.plane.proofs.Points.{point_across, point_straight}
-use Rattle.plane.proofs.Ring.{multiplied, signed}
-use Rattle.plane.proofs.Ring.{mul_comm}
 use Rattle.plane.proofs.Scale.{crosses_larger, times_point}
 use Rattle.plane.proofs.SegmentParts.{segment}
-use Rattle.plane.proofs.Signs.{mul_le, mul_positive}
+use Rattle.plane.proofs.Signs.{mul_positive}
 use Rattle.parity_laws.proofs.Cutting.{cut_crosses}
-use Rattle.parity_laws.proofs.Sums.{summing}
+use Rattle.parity_laws.proofs.Sums.{summing, xor_assoc, xor_self}
+use Rattle.parity_laws.proofs.Scaling.{area_larger}
+use Rattle.parity_laws.proofs.Footing.{times_le}
 
 -- ---- a segment that is cut
-area_larger : (k : ℤ) (a b q : Point) → area (larger k a) (larger k b) (larger k q) ≡ k *ℤ (k *ℤ area a b q)
-area_larger k a b q = plain k a.x a.y b.x b.y q.x q.y
-  where
-    plain : (k ax ay bx by x y : ℤ) → ((k *ℤ bx) -ℤ (k *ℤ ax)) *ℤ ((k *ℤ y) -ℤ (k *ℤ ay)) -ℤ ((k *ℤ by) -ℤ (k *ℤ ay)) *ℤ ((k *ℤ x) -ℤ (k *ℤ ax)) ≡ k *ℤ (k *ℤ ((bx -ℤ ax) *ℤ (y -ℤ ay) -ℤ (by -ℤ ay) *ℤ (x -ℤ ax)))
-    plain k ax ay bx by x y = simp multiplied (omega (arith, signed))
-
-le_larger : (k x y : ℤ) → pos 0 <ℤ k → x ≤ℤ y → (k *ℤ x) ≤ℤ (k *ℤ y)
-le_larger k x y h g = let m = mul_le x y k g (omega (arith, signed)) in by_comm (x *ℤ k) (y *ℤ k) (k *ℤ x) (k *ℤ y) m (mul_comm x k) (mul_comm y k)
-  where
-    by_comm : (a b c d : ℤ) → a ≤ℤ b → a ≡ c → b ≡ d → c ≤ℤ d
-    by_comm a b c d m e f = omega (arith, signed)
-
 between_larger : (k a m b : ℤ) → pos 0 <ℤ k → IsBetween a m b → IsBetween (k *ℤ a) (k *ℤ m) (k *ℤ b)
-between_larger k a m b h (inl p) = inl (le_larger k a m h p.0, le_larger k m b h p.1)
-between_larger k a m b h (inr p) = inr (le_larger k b m h p.0, le_larger k m a h p.1)
+between_larger k a m b h (inl p) = inl (times_le k a m h p.0, times_le k m b h p.1)
+between_larger k a m b h (inr p) = inr (times_le k b m h p.0, times_le k m a h p.1)
 
 one_positive : pos 0 <ℤ pos 1
 one_positive = record { lt = tt }
@@ -67,10 +54,7 @@ over_cut s m q on = sym (over_is s q) ∙ cut_at s m q on ∙ (λ i. xor (over_i
 -- ---- a line that is cut
 odd_append : (q : RationalPoint) (X Y : List Segment) → is_odd_over_at q (X ++ Y) ≡ xor (is_odd_over_at q X) (is_odd_over_at q Y)
 odd_append q [] Y = refl
-odd_append q (s ∷ X) Y = ap (xor (is_over_at q s)) (odd_append q X Y) ∙ sums (is_over_at q s) (is_odd_over_at q X) (is_odd_over_at q Y)
-  where
-    sums : (a b c : Bool) → xor a (xor b c) ≡ xor (xor a b) c
-    sums a b c = simp summing
+odd_append q (s ∷ X) Y = ap (xor (is_over_at q s)) (odd_append q X Y) ∙ sym (xor_assoc (is_over_at q s) (is_odd_over_at q X) (is_odd_over_at q Y))
 
 pub line_odd : (p : Point) (line : List Point) (q : RationalPoint) → Cut p line → is_odd_over_at q (segments_of line) ≡ xor (is_odd_over_at q (segments_of (line_up_to p line))) (is_odd_over_at q (segments_of (line_from p line)))
 line_odd p line q c =
@@ -116,10 +100,7 @@ border_total g q (e ∷ es) = by (is_border g e) (border_total g q es)
 pub total_append : (g : ℕ) (q : RationalPoint) (es fs : List Edge) → total g q (es ++ fs) ≡ xor (total g q es) (total g q fs)
 unfolding total
 total_append g q [] fs = refl
-total_append g q (e ∷ es) fs = ap (xor (weight g q e)) (total_append g q es fs) ∙ sums (weight g q e) (total g q es) (total g q fs)
-  where
-    sums : (a b c : Bool) → xor a (xor b c) ≡ xor (xor a b) c
-    sums a b c = simp summing
+total_append g q (e ∷ es) fs = ap (xor (weight g q e)) (total_append g q es fs) ∙ sym (xor_assoc (weight g q e) (total g q es) (total g q fs))
 
 -- ---- one edge that goes or changes
 no_other : (es : List Edge) (n : ℕ) → ((y : Edge) → Contains es y → y.edge_id ≢ n) → without_row edge_id_of es n ≡ es
@@ -136,9 +117,6 @@ none_changes (x ∷ es) n change far =
 twice : (a b : Bool) → b ≡ xor (xor a b) a
 twice a b = simp summing
 
-last : (a b d : Bool) → xor a (xor b d) ≡ xor (xor a b) d
-last a b d = simp summing
-
 pub total_without : (g : ℕ) (q : RationalPoint) (es : List Edge) (e : Edge) → Pairwise EdgeIdsDiffer es → Contains es e → total g q (without_row edge_id_of es e.edge_id) ≡ xor (total g q es) (weight g q e)
 unfolding total
 total_without g q [] e h c = absurd (contains_none e c)
@@ -152,7 +130,7 @@ total_without g q (x ∷ es) e h c =
     (λ (d : Contains es e).
     ap (λ b. total g q (cond (not b) (x ∷ without_row edge_id_of es e.edge_id) (without_row edge_id_of es e.edge_id))) (ne_eqb x.edge_id e.edge_id (h.0 e d))
     ∙ ap (xor (weight g q x)) (total_without g q es e h.1 d)
-    ∙ last (weight g q x) (total g q es) (weight g q e))
+    ∙ sym (xor_assoc (weight g q x) (total g q es) (weight g q e)))
     (contains_cases e x es c)
 
 pub total_changed : (g : ℕ) (q : RationalPoint) (es : List Edge) (e : Edge) (change : Edge → Edge) → Pairwise EdgeIdsDiffer es → Contains es e
@@ -168,7 +146,7 @@ total_changed g q (x ∷ es) e change h c =
     (λ (d : Contains es e).
     ap (λ b. xor (weight g q (cond b (change x) x)) (total g q (with_change edge_id_of es e.edge_id change))) (ne_eqb x.edge_id e.edge_id (h.0 e d))
     ∙ ap (xor (weight g q x)) (total_changed g q es e change h.1 d)
-    ∙ last (weight g q x) (total g q es) (xor (weight g q e) (weight g q (change e))))
+    ∙ sym (xor_assoc (weight g q x) (total g q es) (xor (weight g q e) (weight g q (change e)))))
     (contains_cases e x es c)
   where
     other : (a b d : Bool) → xor d b ≡ xor (xor a b) (xor a d)
@@ -226,11 +204,7 @@ changed_same g q es e p n id' h i c =
 
 pub no_weight : (g : ℕ) (q : RationalPoint) (e : Edge) → e.left_face ≡ e.right_face → weight g q e ≡ false
 unfolding weight
-no_weight g q e same = ap (λ b. cond b (is_odd_over_at q (segments_of e.geom)) false) (ap (λ m. xor (m == g) (e.right_face == g)) same ∙ none (e.right_face == g))
-  where
-    none : (b : Bool) → xor b b ≡ false
-    none true = refl
-    none false = refl
+no_weight g q e same = ap (λ b. cond b (is_odd_over_at q (segments_of e.geom)) false) (ap (λ m. xor (m == g) (e.right_face == g)) same ∙ xor_self (e.right_face == g))
 
 -- an edge with one face on both sides is on no border
 pub total_more : (g : ℕ) (q : RationalPoint) (es : List Edge) (e : Edge) → e.left_face ≡ e.right_face → total g q (es ++ e ∷ []) ≡ total g q es

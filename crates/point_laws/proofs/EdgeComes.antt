@@ -20,7 +20,7 @@ use Rattle.drawing.specs.Star.{last_clockwise, farther_of}
 use Rattle.drawing.proofs.BlockedTests.{Decides-line_blocked}
 use Rattle.plane.proofs.ListTests.{Some_of, contains_none}
 use Rattle.drawing.proofs.Members.{contains-filter, contains-filtered}
-use Rattle.plane.proofs.Middle.{on_at}
+use Rattle.plane.proofs.Middle.{on_at, at_or_not}
 use Rattle.face_rings.proofs.FaceBorders.{has_plain_lines}
 use Rattle.face_rings.proofs.HalvesApart.{half_of, forward_there, backward_there}
 use Rattle.ring_laws.proofs.Inserting.{farthest_is}
@@ -29,7 +29,7 @@ use Rattle.parity_laws.proofs.Tests.{same_is}
 use Rattle.edit_changes.specs.Evidence.{EdgeMayCome}
 use Rattle.local_laws.proofs.LineLaws.{lines_lie_in_faces}
 use Rattle.subdivision_laws.specs.Subdivided.{IsSubdivided}
-use Rattle.point_laws.proofs.Areal.{contained_in, contained_off, end_on_edge, has_containing, on_some_edge, at_or_not}
+use Rattle.point_laws.proofs.Areal.{contained_in, contained_off, end_on_edge, has_containing, on_some_edge}
 
 -- ---- the face of a line at a node
 -- a half-edge that leaves the node on whose right the face is

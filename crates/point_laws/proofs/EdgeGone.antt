@@ -1,8 +1,8 @@
 -- The line of an edge that has gone lies in the face that covers its place, or on the border of that.
-use Rattle.std.proofs.Common.{◌≡◌, ◌≢◌, ◌∙◌, ℕ, zero, suc, arith, refl, sym, subst, ◌⊎◌, inl, ⊎_elim, true, false, List, [], ◌∷◌, eqb}
+use Rattle.std.proofs.Common.{◌≡◌, ◌≢◌, ◌∙◌, ℕ, arith, refl, sym, subst, ◌⊎◌, inl, ⊎_elim, true, false, List, [], ◌∷◌, eqb}
 use Rattle.std.specs.Prelude.{IsTrue}
 use Rattle.std.specs.List.{Contains}
-use Rattle.std.proofs.lemmas.Bool.{and_from, and_parts, both_ways, eqb-true, eq-eqb, false_from_ne_true, ne_eqb}
+use Rattle.std.proofs.lemmas.Bool.{and_from, and_parts, false_from_ne_true}
 use Rattle.topo_base.specs.Point.{Point, same_point}
 use Rattle.topo_base.specs.RationalPoint.{IsAt, RationalPoint}
 use Rattle.topo_base.specs.declared.rows.NodeRow.{NodeRow}
@@ -30,7 +30,7 @@ use Rattle.parity_laws.proofs.OnLine.{forth_in}
 use Rattle.face_laws.specs.Covered.{IsCovered, face_of}
 use Rattle.face_laws.specs.Walked.{steps_of}
 use Rattle.edit_changes.specs.Evidence.{EdgeMayCome}
-use Rattle.local_laws.proofs.LineFaces.{IsFree, line_parity}
+use Rattle.local_laws.proofs.LineFaces.{IsFree, line_parity, same_face}
 use Rattle.local_laws.proofs.LineLaws.{lines_lie_in_faces}
 use Rattle.subdivision_laws.specs.Subdivided.{IsSubdivided}
 use Rattle.point_laws.proofs.EdgeComes.{on_line_of}
@@ -39,14 +39,14 @@ use Rattle.point_laws.proofs.EdgeComes.{on_line_of}
 abbrev SameRow : NodeRow → NodeRow → Type 0
 SameRow m n = (m.node_id ≡ n.node_id) × (m.geom ≡ n.geom)
 
-pub record IsLess (S T : Drawing) (e : Edge) : Type 0 where
+pub record IsWithout (S T : Drawing) (e : Edge) : Type 0 where
   pub there : Contains S.edges e
   pub row : (n : NodeRow) → Contains S.nodes n → (m : NodeRow) × (Contains T.nodes m × SameRow m n)
   pub was_row : (m : NodeRow) → Contains T.nodes m → (n : NodeRow) × (Contains S.nodes n × SameRow m n)
   pub was_edge : (y : Edge) → Contains T.edges y → (x : Edge) × (Contains S.edges x × ((x.edge_id ≡ e.edge_id → ⊥) × (y.geom ≡ x.geom)))
 
 -- ---- the edge may come again
-again : (S T : Drawing) (e : Edge) → HasPlainLines S → IsLess S T e → (a : NodeRow) × ((b : NodeRow) × IsFree T a b e.geom)
+again : (S T : Drawing) (e : Edge) → HasPlainLines S → IsWithout S T e → (a : NodeRow) × ((b : NodeRow) × IsFree T a b e.geom)
 again S T e good h = (a.0, (b.0, record { between = record { start_there = a.1.0; end_there = b.1.0; long = good.long e h.there; ends = between; simple = simple }; free = free }))
   where
     starts : Some_of (λ (row : NodeRow). (row.node_id ≡ e.start_node) × SameCoordinates row.geom (first_vertex e.geom)) S.nodes
@@ -100,12 +100,6 @@ again S T e good h = (a.0, (b.0, record { between = record { start_there = a.1.0
         (λ t. let (q, (inside, at)) = (Decides-line_blocked T e.geom).0 t in ⊎_elim (not_at_node q inside) (not_at_edge q inside) at)
 
 -- ---- the face at its start
--- as in local_laws/proofs/LineFaces
-same_face : (f k : ℕ) → ((g : ℕ) → g ≢ 0 → eqb f g ≡ eqb k g) → k ≡ f
-same_face zero zero h = refl
-same_face zero (suc k) h = absurd (both_ways (eqb 0 (suc k)) (ne_eqb 0 (suc k) (λ e. omega (arith, e))) (h (suc k) (λ e. omega (arith, e)) ∙ eq-eqb (suc k) (suc k) refl))
-same_face (suc f) k h = eqb-true k (suc f) (sym (h (suc f) (λ e. omega (arith, e))) ∙ eq-eqb (suc f) (suc f) refl)
-
 -- left of the step the parities say the face k
 abbrev pub IsBeside : Drawing → Segment → ℕ → Type 0
 IsBeside T s k = (g : ℕ) → g ≢ 0 → left (those (of_face (face_of T) g) (steps_of T)) s ≡ eqb k g
@@ -116,7 +110,7 @@ start_face T a b (p ∷ []) first rest k is c h beside = let long = h.between.lo
 start_face T a b (p ∷ r ∷ vs) first rest k is c h beside =
     same_face k (face_at_start T a (p ∷ r ∷ vs)) (λ g n. sym (beside g n) ∙ line_parity T a b p r vs c h g n first (forth_in (segments_of (p ∷ r ∷ vs)) first (subst (In first) (sym is) (inl refl))))
 
-pub on_gone : (S T : Drawing) (e : Edge) (first : Segment) (rest : List Segment) (k : ℕ) (q : RationalPoint) → IsSubdivided S → IsSubdivided T → IsLess S T e → segments_of e.geom ≡ first ∷ rest → IsBeside T first k → IsOnEdge q e
+pub on_gone : (S T : Drawing) (e : Edge) (first : Segment) (rest : List Segment) (k : ℕ) (q : RationalPoint) → IsSubdivided S → IsSubdivided T → IsWithout S T e → segments_of e.geom ≡ first ∷ rest → IsBeside T first k → IsOnEdge q e
     → (IsOffEdges T q × IsTrue (is_in T k q)) ⊎ OnSides T (k ∷ []) q
 on_gone S T e first rest k q s t h line beside on =
     let (a, (b, may)) = again S T e (has_plain_lines S s.covered.ringed.rings) h in

@@ -1,9 +1,9 @@
 -- Edges that come leave the points of features.
-use Rattle.std.proofs.Common.{◌≤◌, ◌≡◌, ◌≢◌, ◌∙◌, ℕ, ◌+◌, arith, refl, sym, subst, ◌⊎◌, inl, inr, ⊎_elim, Bool, true, false, cond, not, ◌==◌, List, [], ◌∷◌, ◌++◌, filter, length, eqb-true, None}
-use Rattle.std.specs.Prelude.{nat_le, ◌↔◌}
+use Rattle.std.proofs.Common.{◌≡◌, ◌≢◌, ◌∙◌, ℕ, ◌+◌, arith, refl, sym, subst, ◌⊎◌, inl, inr, ⊎_elim, Bool, true, false, cond, not, ◌==◌, List, [], ◌∷◌, ◌++◌, filter, eqb-true, None}
+use Rattle.std.specs.Prelude.{◌↔◌}
 use Rattle.std.specs.List.{Contains}
-use Rattle.std.proofs.lemmas.Bool.{and_parts, both_ways, eq-eqb, leb-true, not-true}
-use Rattle.std.proofs.lemmas.List.Elements.{Contains-append_cases, Contains-append_right, Contains-push, Contains-push_cases}
+use Rattle.std.proofs.lemmas.Bool.{both_ways, eq-eqb, not-true}
+use Rattle.std.proofs.lemmas.List.Elements.{Contains-append_cases, Contains-append_right, Contains-push, Contains-push_cases, Contains-append_left}
 use Rattle.topo_base.specs.Point.{Point}
 use Rattle.topo_base.specs.declared.rows.NodeRow.{NodeRow}
 use Rattle.plane.proofs.ListTests.{contains_cases, contains_here, contains_none, contains_there}
@@ -19,20 +19,17 @@ use Rattle.ring_laws.proofs.Known.{any_in, any_out, wedge_listed}
 use Rattle.face_laws.proofs.Covering.{known}
 use Rattle.subdivision_laws.specs.Subdivided.{IsSubdivided}
 use Rattle.subdivision_laws.proofs.RingAdded.{FacesBelow, faces_below, faces_in_order}
+use Rattle.subdivision_laws.proofs.SubdivisionsStaying.{line_long}
 use Rattle.point_laws.specs.PointsStay.{KeepsPoints}
 use Rattle.point_laws.proofs.CutParity.{border_total, total_more}
 use Rattle.point_laws.proofs.EdgeComes.{on_line_of}
 use Rattle.point_laws.proofs.EdgePoints.{ListsAlike, edge_more, new_unlisted, put_twice_same}
 use Rattle.point_laws.proofs.FaceDivided.{AreParts, Divides, IsListed, face_divided, parted}
 use Rattle.point_laws.proofs.Follow.{listed_in}
-use Rattle.point_laws.proofs.NodeEdits.{in_front}
 use Rattle.point_laws.proofs.OneMore.{HasOneMore, same_in}
 use Rattle.point_laws.proofs.Told.{IsTold}
 
 -- ---- the line
-line_long : (line : List Point) → is_line_short line ≡ true → 2 ≤ length line
-line_long line short = leb-true 2 (length line) (and_parts (nat_le 2 (length line)) (nat_le (length line) 4096) short).0
-
 -- ---- an edge within a face
 abbrev own_name : ℕ → ℕ
 own_name m = m
@@ -53,7 +50,7 @@ same_lists B A S T features layers rows alike = record {
 
 within : (S : Drawing) (a b : NodeRow) (line : List Point) (f : ℕ) → IsTold S → EdgeMayCome S a b line f → is_line_short line ≡ true → IsSubdivided (with_edge S a b line f) → HasOneMore S (with_edge S a b line f) (coming S a b line f) own_name f
 within S a b line f h k short later = record {
-  more = λ x c. (x, (in_front x S.edges (e ∷ []) c, record { id = refl; geom = refl; left = refl; right = refl }));
+  more = λ x c. (x, (Contains-append_left S.edges (e ∷ []) x c, record { id = refl; geom = refl; left = refl; right = refl }));
   from = λ y c. ⊎_elim (λ (old : Contains S.edges y). inl (y, (old, record { id = refl; geom = refl; left = refl; right = refl }))) (λ (is : e ≡ y). inr is) (Contains-push_cases S.edges e y c);
   there = Contains-push S.edges e;
   left = refl;
@@ -85,7 +82,7 @@ one_parts S f b h listed = by b
     fs = S.faces ++ new ∷ []
 
     old : (g : ℕ) → has_face S g ≡ true → IsListed fs g
-    old g there = let s = any_out (λ x. x == g) S.faces there in any_in (λ x. x == g) fs s.0 (in_front s.0 S.faces (new ∷ []) s.1.0) s.1.1
+    old g there = let s = any_out (λ x. x == g) S.faces there in any_in (λ x. x == g) fs s.0 (Contains-append_left S.faces (new ∷ []) s.0 s.1.0) s.1.1
 
     is_new : IsListed fs new
     is_new = any_in (λ x. x == new) fs new (Contains-push S.faces new) (eq-eqb new new refl)

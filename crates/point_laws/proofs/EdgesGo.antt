@@ -31,7 +31,7 @@ use Rattle.ring_laws.proofs.KnownStays.{without_edge}
 use Rattle.ring_laws.proofs.MergedSides.{lessened, merged_with}
 use Rattle.ring_laws.proofs.WithoutEdge.{alone_of, kept_edge, was_edge}
 use Rattle.parity_laws.proofs.JoinedFaces.{JoinedNumber}
-use Rattle.parity_laws.proofs.Sums.{summing}
+use Rattle.parity_laws.proofs.Sums.{summing, xor_none}
 use Rattle.face_laws.proofs.Covering.{known}
 use Rattle.reference_laws.proofs.Elements.{is_free}
 use Rattle.subdivision_laws.specs.Subdivided.{IsSubdivided}
@@ -44,7 +44,7 @@ use Rattle.subdivision_laws.proofs.LoneEdgeGone.{alone_sides, lone_settled}
 use Rattle.subdivision_laws.proofs.RingAdded.{FacesBelow, faces_below, faces_in_order}
 use Rattle.point_laws.specs.PointsStay.{KeepsPoints}
 use Rattle.point_laws.proofs.CutParity.{border_total, no_weight, total, total_without, weight}
-use Rattle.point_laws.proofs.EdgeGone.{IsBeside, IsLess, on_gone}
+use Rattle.point_laws.proofs.EdgeGone.{IsBeside, IsWithout, on_gone}
 use Rattle.point_laws.proofs.EdgePoints.{ListsAlike, edge_less, map_same, put_twice_same}
 use Rattle.point_laws.proofs.EdgesCome.{same_lists}
 use Rattle.point_laws.proofs.Follow.{above_same_rows, listed_anew, other_same_rows}
@@ -61,10 +61,6 @@ unlisted S e u h free k among =
     both_ways (eqb l.row.element_id e) (is_free S edge_type e free l.row l.there l.lists) (eq-eqb l.row.element_id e l.element)
 
 -- ---- an edge whose sides become one face
--- the drawing after it, in which the faces that go have become the one that is kept
-abbrev joined : Drawing → Edge → List ℕ → ℕ → List ℕ → Counters → Drawing
-joined S e gone kept fs ids = merged_with S e gone kept fs ids
-
 record Goes (S : Drawing) (e : Edge) (gone : List ℕ) (kept : ℕ) (fs : List ℕ) (ids : Counters) : Type 0 where
   told : IsTold S
   may : EdgeMayGo S e
@@ -75,9 +71,9 @@ record Goes (S : Drawing) (e : Edge) (gone : List ℕ) (kept : ℕ) (fs : List �
   old_kept : has_face S kept ≡ true → (kept ≡ e.left_face) ⊎ (kept ≡ e.right_face)
   -- the same features list both
   alike : (u g k : ℕ) → HasLevel S Areal zero u → (g ≡ e.left_face) ⊎ (g ≡ e.right_face) → (k ≡ e.left_face) ⊎ (k ≡ e.right_face) → Contains (listed_by S u) g → Contains (listed_by S u) k
-  later : IsSubdivided (joined S e gone kept fs ids)
-  inside : (g : ℕ) (q : RationalPoint) → has_face S g ≡ true → IsTrue (is_in S g q) → IsTrue (is_in (joined S e gone kept fs ids) (renamed gone kept g) q)
-  beside : (first : Segment) (rest : List Segment) → Takes S (joined S e gone kept fs ids) e first rest (renamed gone kept) → IsBeside (joined S e gone kept fs ids) first kept
+  later : IsSubdivided (merged_with S e gone kept fs ids)
+  inside : (g : ℕ) (q : RationalPoint) → has_face S g ≡ true → IsTrue (is_in S g q) → IsTrue (is_in (merged_with S e gone kept fs ids) (renamed gone kept g) q)
+  beside : (first : Segment) (rest : List Segment) → Takes S (merged_with S e gone kept fs ids) e first rest (renamed gone kept) → IsBeside (merged_with S e gone kept fs ids) first kept
 
 rows_same : (S : Drawing) (e : Edge) (gone : List ℕ) (kept : ℕ) (n : NodeRow) → (node_id_of (renamed_node (lessened S e) e gone kept n) ≡ n.node_id) × ((renamed_node (lessened S e) e gone kept n).geom ≡ n.geom)
 rows_same S e gone kept n = by (is_end_of n.node_id e && is_isolated (lessened S e) n.node_id)
@@ -87,7 +83,7 @@ rows_same S e gone kept n = by (is_end_of n.node_id e && is_isolated (lessened S
     by true = (refl, refl)
     by false = (refl, refl)
 
-is_less : (S : Drawing) (e : Edge) (gone : List ℕ) (kept : ℕ) (fs : List ℕ) (ids : Counters) → Contains S.edges e → IsLess S (joined S e gone kept fs ids) e
+is_less : (S : Drawing) (e : Edge) (gone : List ℕ) (kept : ℕ) (fs : List ℕ) (ids : Counters) → Contains S.edges e → IsWithout S (merged_with S e gone kept fs ids) e
 is_less S e gone kept fs ids there = record {
   there = there;
   row = λ n c. (change n, (contains-map change n S.nodes c, rows_same S e gone kept n));
@@ -103,7 +99,7 @@ is_less S e gone kept fs ids there = record {
     change : NodeRow → NodeRow
     change = renamed_node (lessened S e) e gone kept
 
-one_more : (S : Drawing) (e : Edge) (gone : List ℕ) (kept : ℕ) (fs : List ℕ) (ids : Counters) → Goes S e gone kept fs ids → HasOneMore (joined S e gone kept fs ids) S e (renamed gone kept) kept
+one_more : (S : Drawing) (e : Edge) (gone : List ℕ) (kept : ℕ) (fs : List ℕ) (ids : Counters) → Goes S e gone kept fs ids → HasOneMore (merged_with S e gone kept fs ids) S e (renamed gone kept) kept
 one_more S e gone kept fs ids h = record {
   more = λ x c.
       let (y, (i, is)) = contains-mapped (renamed_edge gone kept) x (without_row edge_id_of S.edges e.edge_id) c in
@@ -121,7 +117,7 @@ one_more S e gone kept fs ids h = record {
 }
   where
     T : Drawing
-    T = joined S e gone kept fs ids
+    T = merged_with S e gone kept fs ids
 
     sides : (has_face S e.left_face ≡ true) × (has_face S e.right_face ≡ true)
     sides = (known S h.told.before.covered.ringed).sides e h.may.there
@@ -137,7 +133,7 @@ one_more S e gone kept fs ids h = record {
         on_gone S T e first rest kept q h.told.before h.later (is_less S e gone kept fs ids h.may.there) (ap segments_of b.is)
         (h.beside first rest (record { before = h.told.before.covered; after = h.later.covered.ringed; there = h.may.there; line = ap segments_of b.is; edges = refl })) on
 
-lists : (S : Drawing) (e : Edge) (gone : List ℕ) (kept : ℕ) (fs : List ℕ) (ids : Counters) → Goes S e gone kept fs ids → ListsAlike S (joined S e gone kept fs ids) (joined S e gone kept fs ids) S (renamed gone kept)
+lists : (S : Drawing) (e : Edge) (gone : List ℕ) (kept : ℕ) (fs : List ℕ) (ids : Counters) → Goes S e gone kept fs ids → ListsAlike S (merged_with S e gone kept fs ids) (merged_with S e gone kept fs ids) S (renamed gone kept)
 lists S e gone kept fs ids h = record {
   features = refl;
   layers = refl;
@@ -148,7 +144,7 @@ lists S e gone kept fs ids h = record {
 }
   where
     T : Drawing
-    T = joined S e gone kept fs ids
+    T = merged_with S e gone kept fs ids
 
     name : ℕ → ℕ
     name = renamed gone kept
@@ -217,9 +213,9 @@ lists S e gone kept fs ids h = record {
         other : (name g ≡ g) × (g ≢ kept) × (is_among g gone ≡ false) → Contains (listed_by T u) (name g)
         other p = subst (Contains (listed_by T u)) (sym p.0) ((anew u g k).1 (inl (c, p.2)))
 
-goes : (S : Drawing) (e : Edge) (gone : List ℕ) (kept : ℕ) (fs : List ℕ) (ids : Counters) → Goes S e gone kept fs ids → KeepsPoints S (joined S e gone kept fs ids)
+goes : (S : Drawing) (e : Edge) (gone : List ℕ) (kept : ℕ) (fs : List ℕ) (ids : Counters) → Goes S e gone kept fs ids → KeepsPoints S (merged_with S e gone kept fs ids)
 goes S e gone kept fs ids h =
-    edge_less (joined S e gone kept fs ids) S e (renamed gone kept) kept h.told h.later (one_more S e gone kept fs ids h) (lists S e gone kept fs ids h)
+    edge_less (merged_with S e gone kept fs ids) S e (renamed gone kept) kept h.told h.later (one_more S e gone kept fs ids h) (lists S e gone kept fs ids h)
     (map_same (renamed_node (lessened S e) e gone kept) S.nodes (rows_same S e gone kept)) (λ u k among. unlisted S e.edge_id u h.told h.may.unlisted k among)
 
 -- ---- the parities over a point
@@ -239,9 +235,9 @@ unfolding weight
 off_weigh g q e nl nr = (λ i. cond (xor (ne_eqb e.left_face g (λ z. nl (sym z)) i) (ne_eqb e.right_face g (λ z. nr (sym z)) i)) (is_odd_over_at q (segments_of e.geom)) false)
 
 -- two faces that become one
-halves : (S : Drawing) (e : Edge) (gone : List ℕ) (kept : ℕ) (fs : List ℕ) (ids : Counters) (first : Segment) (rest : List Segment) → IsTold S → TwoSides S (joined S e gone kept fs ids) e first rest (renamed gone kept) kept
-    → has_face (joined S e gone kept fs ids) kept ≡ true → ((g : ℕ) → has_face S g ≡ true → g ≢ e.left_face → g ≢ e.right_face → has_face (joined S e gone kept fs ids) g ≡ true)
-    → HasHalves (joined S e gone kept fs ids) S e.left_face e.right_face kept (renamed gone kept)
+halves : (S : Drawing) (e : Edge) (gone : List ℕ) (kept : ℕ) (fs : List ℕ) (ids : Counters) (first : Segment) (rest : List Segment) → IsTold S → TwoSides S (merged_with S e gone kept fs ids) e first rest (renamed gone kept) kept
+    → has_face (merged_with S e gone kept fs ids) kept ≡ true → ((g : ℕ) → has_face S g ≡ true → g ≢ e.left_face → g ≢ e.right_face → has_face (merged_with S e gone kept fs ids) g ≡ true)
+    → HasHalves (merged_with S e gone kept fs ids) S e.left_face e.right_face kept (renamed gone kept)
 halves S e gone kept fs ids first rest told h listed stays = record {
   differ = h.differ;
   inner = h.outer.inner;
@@ -257,11 +253,11 @@ halves S e gone kept fs ids first rest told h listed stays = record {
       ∙ (λ i. xor (sym (border_total e.left_face q S.edges) i) (sym (border_total e.right_face q S.edges) i));
   other = λ g q nk nl nr.
       border_total g q T.edges ∙ total_other e.left_face e.right_face kept g q T.edges ys pairs nk nl nr ∙ less g q
-      ∙ ap (xor (total g q S.edges)) (off_weigh g q e nl nr) ∙ nothing (total g q S.edges) ∙ sym (border_total g q S.edges);
+      ∙ ap (xor (total g q S.edges)) (off_weigh g q e nl nr) ∙ xor_none (total g q S.edges) ∙ sym (border_total g q S.edges);
 }
   where
     T : Drawing
-    T = joined S e gone kept fs ids
+    T = merged_with S e gone kept fs ids
 
     ys : List Edge
     ys = without_row edge_id_of S.edges e.edge_id
@@ -277,12 +273,8 @@ halves S e gone kept fs ids first rest told h listed stays = record {
     cancels : (a b w : Bool) → xor (xor a w) (xor b w) ≡ xor a b
     cancels a b w = simp summing
 
-    nothing : (b : Bool) → xor b false ≡ b
-    nothing true = refl
-    nothing false = refl
-
 -- ---- one face on both sides
-pub edge_goes : (S : Drawing) (e : Edge) → EdgeMayGo S e → e.left_face ≡ e.right_face → IsTold S → IsSubdivided (joined S e [] e.left_face S.faces S.next_ids) → KeepsPoints S (joined S e [] e.left_face S.faces S.next_ids)
+pub edge_goes : (S : Drawing) (e : Edge) → EdgeMayGo S e → e.left_face ≡ e.right_face → IsTold S → IsSubdivided (merged_with S e [] e.left_face S.faces S.next_ids) → KeepsPoints S (merged_with S e [] e.left_face S.faces S.next_ids)
 edge_goes S e may same told later = goes S e [] e.left_face S.faces S.next_ids (record {
   told = told;
   may = may;
@@ -292,7 +284,7 @@ edge_goes S e may same told later = goes S e [] e.left_face S.faces S.next_ids (
   old_kept = λ _. inl refl;
   alike = λ u g k _ one two c. subst (Contains (listed_by S u)) (left_is g one ∙ sym (left_is k two)) c;
   later = later;
-  inside = λ g q there inside. same_in S (joined S e [] e.left_face S.faces S.next_ids) g q told.before refl (λ m. parity m q) inside;
+  inside = λ g q there inside. same_in S (merged_with S e [] e.left_face S.faces S.next_ids) g q told.before refl (λ m. parity m q) inside;
   beside = λ first rest takes. (one_side S e first rest same takes).beside;
 })
   where
@@ -303,15 +295,11 @@ edge_goes S e may same told later = goes S e [] e.left_face S.faces S.next_ids (
     ys : List Edge
     ys = without_row edge_id_of S.edges e.edge_id
 
-    nothing : (b : Bool) → xor b false ≡ b
-    nothing true = refl
-    nothing false = refl
-
-    parity : (m : ℕ) (q : RationalPoint) → is_in_face_at (joined S e [] e.left_face S.faces S.next_ids) m q ≡ is_in_face_at S m q
+    parity : (m : ℕ) (q : RationalPoint) → is_in_face_at (merged_with S e [] e.left_face S.faces S.next_ids) m q ≡ is_in_face_at S m q
     parity m q =
         border_total m q (map (renamed_edge [] e.left_face) ys) ∙ same_edges m q ys e.left_face
         ∙ total_without m q S.edges e (ids_differ edge_id_of 1 S.next_ids.edge S.edges told.order.edges) may.there
-        ∙ ap (xor (total m q S.edges)) (no_weight m q e same) ∙ nothing (total m q S.edges) ∙ sym (border_total m q S.edges)
+        ∙ ap (xor (total m q S.edges)) (no_weight m q e same) ∙ xor_none (total m q S.edges) ∙ sym (border_total m q S.edges)
 
 -- ---- two faces join
 -- a face that isn't one of these stays listed
@@ -332,7 +320,7 @@ sides_alike S e u g k told may level (inl p) (inr r) c = subst (Contains (listed
 sides_alike S e u g k told may level (inr p) (inl r) c = subst (Contains (listed_by S u)) (sym r) (listed_alike S Areal e.right_face e.left_face u told.rows level (turned_alike S face_type e.left_face e.right_face may.alike) (subst (Contains (listed_by S u)) p c))
 sides_alike S e u g k told may level (inr p) (inr r) c = subst (Contains (listed_by S u)) (p ∙ sym r) c
 
-of_one : (g n : ℕ) → is_among g (n ∷ []) ≡ true → g ≡ n
+pub of_one : (g n : ℕ) → is_among g (n ∷ []) ≡ true → g ≡ n
 of_one g n h = ⊎_elim (λ (e : (n == g) ≡ true). sym (eqb-true n g e)) (λ (e : false ≡ true). absurd cc) (or_cases (n == g) false h)
 
 of_two : (g n m : ℕ) → is_among g (n ∷ m ∷ []) ≡ true → (g ≡ n) ⊎ (g ≡ m)
@@ -441,20 +429,16 @@ lone_edge_goes S e may told later =
     same : e.left_face ≡ e.right_face
     same = alone_sides S e told.before.covered may.there (alone_of S e may.lone)
 
-    nothing : (b : Bool) → xor b false ≡ b
-    nothing true = refl
-    nothing false = refl
-
     parity : (m : ℕ) (q : RationalPoint) → is_in_face_at T m q ≡ is_in_face_at S m q
     parity m q =
         border_total m q ys
         ∙ total_without m q S.edges e (ids_differ edge_id_of 1 S.next_ids.edge S.edges told.order.edges) may.there
-        ∙ ap (xor (total m q S.edges)) (no_weight m q e same) ∙ nothing (total m q S.edges) ∙ sym (border_total m q S.edges)
+        ∙ ap (xor (total m q S.edges)) (no_weight m q e same) ∙ xor_none (total m q S.edges) ∙ sym (border_total m q S.edges)
 
     renames : (y : Edge) → IsRenamed (λ m. m) y y
     renames y = record { id = refl; geom = refl; left = refl; right = refl }
 
-    less : IsLess S T e
+    less : IsWithout S T e
     less = record {
       there = may.there;
       row = λ n c. put_forth n c;

@@ -4,7 +4,7 @@ use Rattle.std.specs.Prelude.{◌↔◌, nat_eq, Some}
 use Rattle.std.specs.Option.{option_eq}
 use Rattle.std.specs.List.{Contains, list_any}
 use Rattle.std.proofs.lemmas.Bool.{and_parts, both_ways, eq-eqb, false_from_ne_true, ne_eqb, or_cases}
-use Rattle.std.proofs.lemmas.List.Elements.{Contains-push, Contains-push_cases}
+use Rattle.std.proofs.lemmas.List.Elements.{Contains-push, Contains-push_cases, Contains-append_left}
 use Rattle.topo_base.specs.Point.{Point}
 use Rattle.topo_base.specs.RationalPoint.{RationalPoint}
 use Rattle.topo_base.specs.declared.kind.Kind.TheVariants.{Areal, Lineal, Puntal}
@@ -30,7 +30,6 @@ use Rattle.point_laws.proofs.EdgePoints.{ListsAlike, SameNodes, edge_more, map_s
 use Rattle.point_laws.proofs.Follow.{above_same_rows, listed_anew, other_same_rows}
 use Rattle.point_laws.proofs.JoinedParity.{HasHalves, IsJoined, Pairs, in_halves, pairs_to, total_joined, total_other}
 use Rattle.point_laws.proofs.Levels.{HasLevel}
-use Rattle.point_laws.proofs.NodeEdits.{in_front}
 use Rattle.point_laws.proofs.OneMore.{HasOneMore, IsRenamed}
 use Rattle.point_laws.proofs.Primitive.{among_in, among_out, listing, rows_list}
 use Rattle.point_laws.proofs.Told.{IsTold}
@@ -200,7 +199,7 @@ halves S a b line d fs count h = record {
 one_more : (S : Drawing) (a b : NodeRow) (line : List Point) (d : Division) (fs : List ℕ) (count : ℕ) → Divides S a b line d fs → IsSubdivided (parted S a b line d fs count)
     → HasOneMore S (parted S a b line d fs count) (parts_of_edge S a b line d (coming S a b line d.face)) (name_of d) d.face
 one_more S a b line d fs count h later = record {
-  more = λ x c. let there = in_front x S.edges (e ∷ []) c in (change x, (contains-map change x xs there, edge_renamed S a b line d fs count h later x there));
+  more = λ x c. let there = Contains-append_left S.edges (e ∷ []) x c in (change x, (contains-map change x xs there, edge_renamed S a b line d fs count h later x there));
   from = λ y c. let (x, (i, is)) = contains-mapped change y xs c in was y x i is (Contains-push_cases S.edges e x i);
   there = contains-map change e xs own;
   left = sym (edge_renamed S a b line d fs count h later e own).left;

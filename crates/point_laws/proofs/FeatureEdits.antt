@@ -15,15 +15,16 @@ use Rattle.drawing.specs.Descent.{listed_by}
 use Rattle.drawing.specs.Drawing.{Drawing, feature_at, feature_id_of, layer_at, layer_id_of}
 use Rattle.drawing.specs.FeaturePoints.{IsPointOfElements}
 use Rattle.drawing.specs.Layers.{row_for, with_feature_done, with_layer_done}
-use Rattle.drawing.specs.Relations.{insert_row, is_hierarchical, lists_feature, ordered, row_before, same_row}
+use Rattle.drawing.specs.Relations.{insert_row, is_hierarchical, lists_feature, ordered, same_row}
 use Rattle.drawing.specs.Rows.{row_at, without_row}
 use Rattle.plane.proofs.ListTests.{contains_here, contains_there}
 use Rattle.drawing.proofs.Members.{contains-found, contains-mapped, ids_within}
 use Rattle.drawing.proofs.Ordering.{InOrder}
 use Rattle.drawing.proofs.RowLemmas.{row_at-without_other, row_at-without_same}
 use Rattle.relation_rows.proofs.Order.{same_topogeo}
+use Rattle.relation_rows.proofs.Putting.{put_unlisted}
 use Rattle.reference_laws.proofs.Followed.{in_ordered}
-use Rattle.reference_laws.proofs.KnownRows.{KnowsRows}
+use Rattle.reference_laws.proofs.KnownRows.{HasKnownRows}
 use Rattle.reference_laws.proofs.LayerChanges.{found_more}
 use Rattle.ring_laws.proofs.Known.{any_in}
 use Rattle.edit_changes.specs.Evidence.{FeatureMayGo}
@@ -50,16 +51,6 @@ within_step p q x xs each rest false false e f = rest
 filter_within : {X : Type 0} (p q : X → Bool) (xs : List X) → ((x : X) → p x ≡ true → q x ≡ true) → filter p (filter q xs) ≡ filter p xs
 filter_within p q [] each = refl
 filter_within p q (x ∷ xs) each = within_step p q x xs (each x) (filter_within p q xs each) (q x) (p x) refl refl
-
-insert_step : (p : RelationRow → Bool) (a b : RelationRow) (rows : List RelationRow) → p a ≡ false → filter p (insert_row a rows) ≡ filter p rows → (x y : Bool)
-    → filter p (cond x (a ∷ b ∷ rows) (cond y (b ∷ rows) (b ∷ insert_row a rows))) ≡ filter p (b ∷ rows)
-insert_step p a b rows h rest true y = ap (λ c. cond c (a ∷ filter p (b ∷ rows)) (filter p (b ∷ rows))) h
-insert_step p a b rows h rest false true = refl
-insert_step p a b rows h rest false false = ap (λ ys. cond (p b) (b ∷ ys) ys) rest
-
-filter_insert : (p : RelationRow → Bool) (a : RelationRow) (rows : List RelationRow) → p a ≡ false → filter p (insert_row a rows) ≡ filter p rows
-filter_insert p a [] h = ap (λ c. cond c (a ∷ []) []) h
-filter_insert p a (b ∷ rows) h = insert_step p a b rows h (filter_insert p a rows h) (row_before a b) (same_row a b)
 
 -- ---- nodes, edges and faces are as they were
 abbrev with_others : Drawing → List LayerRow → List FeatureRow → List RelationRow → Counters → Drawing
@@ -160,7 +151,7 @@ not_it S u zero t h e = h e
 not_it S u (suc n) t h e = h (inl e)
 
 -- the rows of others stay
-others_stay : (S : Drawing) (u : ℕ) (relations : List RelationRow) → KnowsRows S → ((v : ℕ) → v ≢ u → filter (λ (r : RelationRow). r.topogeo_id == v) relations ≡ filter (λ (r : RelationRow). r.topogeo_id == v) S.relations)
+others_stay : (S : Drawing) (u : ℕ) (relations : List RelationRow) → HasKnownRows S → ((v : ℕ) → v ≢ u → filter (λ (r : RelationRow). r.topogeo_id == v) relations ≡ filter (λ (r : RelationRow). r.topogeo_id == v) S.relations)
     → KeepsPointsOf (IsApartFrom S u) S (with_others S S.layers S.features relations S.next_ids)
 others_stay S u relations knows same t apart before later =
     points_kept S (with_others S S.layers S.features relations S.next_ids) (Below S u) t knows
@@ -174,7 +165,7 @@ others_stay S u relations knows same t apart before later =
 
 pub lists_more : (S : Drawing) (row : RelationRow) → IsTold S → KeepsPointsOf (IsApartFrom S row.topogeo_id) S (with_others S S.layers S.features (insert_row row S.relations) S.next_ids)
 lists_more S row h =
-    others_stay S row.topogeo_id (insert_row row S.relations) h.rows (λ v ne. filter_insert (λ (r : RelationRow). r.topogeo_id == v) row S.relations (ne_eqb row.topogeo_id v (λ e. ne (sym e))))
+    others_stay S row.topogeo_id (insert_row row S.relations) h.rows (λ v ne. put_unlisted (λ (r : RelationRow). r.topogeo_id == v) row S.relations (ne_eqb row.topogeo_id v (λ e. ne (sym e))))
 
 pub lists_less : (S : Drawing) (row : RelationRow) → IsTold S → KeepsPointsOf (IsApartFrom S row.topogeo_id) S (with_others S S.layers S.features (filter (λ r. not (same_row row r)) S.relations) S.next_ids)
 lists_less S row h =

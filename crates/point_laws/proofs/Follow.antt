@@ -1,22 +1,21 @@
 -- What a feature lists after its rows have followed elements that changed.
-use Rattle.std.proofs.Common.{◌≡◌, ◌∙◌, ℕ, zero, suc, refl, sym, ap, subst, ◌⊎◌, inl, inr, ⊎_elim, Bool, true, false, cond, ◌&&◌, ◌==◌, eq-eqb, eqb-true, List, [], ◌∷◌, ◌++◌, map, filter}
+use Rattle.std.proofs.Common.{◌≡◌, ◌∙◌, ℕ, zero, suc, refl, sym, ap, subst, ◌⊎◌, inl, inr, ⊎_elim, Bool, true, false, cond, ◌&&◌, ◌==◌, eq-eqb, eqb-true, List, [], ◌∷◌, map, filter}
 use Rattle.std.specs.Prelude.{◌↔◌, flat_map}
 use Rattle.std.specs.List.{Contains}
 use Rattle.std.proofs.lemmas.Bool.{and_from, and_parts, false≢true}
-use Rattle.std.proofs.lemmas.List.Elements.{Contains-append_cases}
+use Rattle.std.proofs.lemmas.List.Elements.{Contains-append_left, Contains-append_right}
 use Rattle.topo_base.specs.declared.rows.RelationRow.{RelationRow}
 use Rattle.drawing.specs.Drawing.{Drawing}
 use Rattle.drawing.specs.Relations.{follow, followed, insert_row, is_among, lists_element, ordered, row_before, same_row, with_elements}
 use Rattle.plane.proofs.ListTests.{contains_cases, contains_here, contains_none, contains_there}
 use Rattle.drawing.proofs.Members.{contains-filter, contains-filtered, contains-map, contains-mapped}
 use Rattle.relation_rows.proofs.Order.{same_element, same_topogeo}
-use Rattle.reference_laws.proofs.Followed.{Came, in_ordered}
+use Rattle.reference_laws.proofs.Followed.{Came, in_ordered, came}
 use Rattle.reference_laws.proofs.Followed.Came.{Stayed, Replaced}
 use Rattle.topo_base.specs.Kinds.{kind_number}
 use Rattle.topo_base.specs.declared.kind.Kind.{Kind}
-use Rattle.reference_laws.proofs.KnownRows.{KnowsRows}
+use Rattle.reference_laws.proofs.KnownRows.{HasKnownRows}
 use Rattle.point_laws.proofs.Levels.{HasLevel, above_rows}
-use Rattle.point_laws.proofs.NodeEdits.{in_front}
 use Rattle.point_laws.proofs.Primitive.{above_kind, other_kind, rows_list}
 
 -- ---- rows that are put in order
@@ -52,34 +51,10 @@ ordered_has r (a ∷ rows) c =
     (λ (d : Contains rows r). let k = ordered_has r rows d in record { row = k.row; there = put_keeps a k.row (ordered rows) k.there; topogeo = k.topogeo; element = k.element })
     (contains_cases r a rows c)
 
-pub behind : {X : Type 0} (x : X) (xs ys : List X) → Contains ys x → Contains (xs ++ ys) x
-behind x [] ys c = c
-behind x (y ∷ xs) ys c = contains_there x y (xs ++ ys) (behind x xs ys c)
-
 in_flat : (f : RelationRow → List RelationRow) (q r : RelationRow) (rows : List RelationRow) → Contains rows q → Contains (f q) r → Contains (flat_map f rows) r
 in_flat f q r [] c d = absurd (contains_none q c)
 in_flat f q r (a ∷ rows) c d =
-    ⊎_elim (λ (e : a ≡ q). in_front r (f a) (flat_map f rows) (subst (λ z. Contains (f z) r) (sym e) d)) (λ (k : Contains rows q). behind r (f a) (flat_map f rows) (in_flat f q r rows k d)) (contains_cases q a rows c)
-
--- ---- where a row comes from, as in reference_laws/proofs/Followed
-came_more : (S : Drawing) (type : ℕ) (old new : List ℕ) (rows : List RelationRow) (q r : RelationRow) → Came S type old new rows r → Came S type old new (q ∷ rows) r
-came_more S type old new rows q r (Stayed c h) = Stayed (contains_there r q rows c) h
-came_more S type old new rows q r (Replaced p c h id d e) = Replaced p (contains_there p q rows c) h id d e
-
-came_first : (S : Drawing) (type : ℕ) (old new : List ℕ) (rows : List RelationRow) (q r : RelationRow) (b : Bool) → (lists_element S type q.element_id q && is_among q.element_id old) ≡ b
-    → Contains (cond b (with_elements new q) (q ∷ [])) r → Came S type old new (q ∷ rows) r
-came_first S type old new rows q r true h c =
-    let m = contains-mapped (λ id. record q { element_id = id }) r new c in
-    Replaced q (contains_here q rows) h m.0 m.1.0 m.1.1
-came_first S type old new rows q r false h c =
-    ⊎_elim (λ (e : q ≡ r). subst (Came S type old new (q ∷ rows)) e (Stayed (contains_here q rows) h)) (λ (k : Contains [] r). absurd (contains_none r k)) (contains_cases r q [] c)
-
-came : (S : Drawing) (type : ℕ) (old new : List ℕ) (rows : List RelationRow) (r : RelationRow) → Contains (flat_map (followed S type old new) rows) r → Came S type old new rows r
-came S type old new [] r c = absurd (contains_none r c)
-came S type old new (q ∷ rows) r c =
-    ⊎_elim (λ (k : Contains (followed S type old new q) r). came_first S type old new rows q r (lists_element S type q.element_id q && is_among q.element_id old) refl k)
-    (λ (k : Contains (flat_map (followed S type old new) rows) r). came_more S type old new rows q r (came S type old new rows r k))
-    (Contains-append_cases (followed S type old new q) (flat_map (followed S type old new) rows) r c)
+    ⊎_elim (λ (e : a ≡ q). Contains-append_left (f a) (flat_map f rows) r (subst (λ z. Contains (f z) r) (sym e) d)) (λ (k : Contains rows q). Contains-append_right (f a) (flat_map f rows) r (in_flat f q r rows k d)) (contains_cases q a rows c)
 
 -- ---- what a feature lists by these rows
 abbrev pub listed_in : List RelationRow → ℕ → List ℕ
@@ -171,8 +146,8 @@ listed_anew S type old new u w lists = (
         l.of refl
 
 -- ---- features that list other elements, and those above others
-pub above_same_rows : (S : Drawing) (type : ℕ) (old new : List ℕ) (kind : Kind) (n u w : ℕ) → KnowsRows S → HasLevel S kind (suc n) u → Contains (listed_in S.relations u) w ↔ Contains (listed_in (follow S type old new) u) w
+pub above_same_rows : (S : Drawing) (type : ℕ) (old new : List ℕ) (kind : Kind) (n u w : ℕ) → HasKnownRows S → HasLevel S kind (suc n) u → Contains (listed_in S.relations u) w ↔ Contains (listed_in (follow S type old new) u) w
 above_same_rows S type old new kind n u w knows k = listed_same S type old new u w (λ r c of. above_kind S type r (is_among r.element_id old) (above_rows S kind n u knows k r c of))
 
-pub other_same_rows : (S : Drawing) (type : ℕ) (old new : List ℕ) (kind : Kind) (u w : ℕ) → KnowsRows S → (kind_number kind == type) ≡ false → HasLevel S kind zero u → Contains (listed_in S.relations u) w ↔ Contains (listed_in (follow S type old new) u) w
+pub other_same_rows : (S : Drawing) (type : ℕ) (old new : List ℕ) (kind : Kind) (u w : ℕ) → HasKnownRows S → (kind_number kind == type) ≡ false → HasLevel S kind zero u → Contains (listed_in S.relations u) w ↔ Contains (listed_in (follow S type old new) u) w
 other_same_rows S type old new kind u w knows differ k = listed_same S type old new u w (λ r c of. other_kind S (kind_number kind) type r (is_among r.element_id old) differ (rows_list S kind u knows k r c of))

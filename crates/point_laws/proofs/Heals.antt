@@ -1,9 +1,10 @@
 -- Two edges that are joined leave the points of features.
-use Rattle.std.proofs.Common.{◌≡◌, ◌∙◌, ℕ, zero, ◌+◌, arith, refl, sym, ap, subst, ◌⊎◌, inl, inr, ⊎_elim, Bool, true, false, ◌||◌, ◌==◌, List, [], ◌∷◌, eqb-true}
+use Rattle.std.proofs.Common.{◌≡◌, ◌∙◌, ℕ, zero, ◌+◌, arith, refl, sym, ap, subst, ◌⊎◌, inl, inr, ⊎_elim, true, false, ◌||◌, ◌==◌, List, [], ◌∷◌, eqb-true}
 use Rattle.std.specs.Prelude.{◌↔◌, reverse}
 use Rattle.std.specs.List.{Contains}
 use Rattle.std.proofs.lemmas.Bool.{both_ways, false≢true, ne_eqb, or_cases}
 use Rattle.std.proofs.lemmas.List.{reverse-reverse}
+use Rattle.std.proofs.Math.Bool.{or_comm}
 use Rattle.topo_base.specs.RationalPoint.{RationalPoint}
 use Rattle.topo_base.specs.declared.kind.Kind.{Kind}
 use Rattle.topo_base.specs.declared.kind.Kind.TheVariants.{Areal, Lineal, Puntal}
@@ -58,15 +59,9 @@ on_half x h k q (inr b) = (
 )
 
 -- and its sides
-or_turned : (a b : Bool) → (a || b) ≡ (b || a)
-or_turned true true = refl
-or_turned true false = refl
-or_turned false true = refl
-or_turned false false = refl
-
 sides_of_half : (x : Edge) (h k : HalfEdge) (ids : List ℕ) → AreBoth x h k → has_side x ids ≡ (is_among h.on_left ids || is_among h.on_right ids)
 sides_of_half x h k ids (inl b) = ap (λ (z : HalfEdge). is_among z.on_left ids || is_among z.on_right ids) b.0
-sides_of_half x h k ids (inr b) = or_turned (is_among x.left_face ids) (is_among x.right_face ids) ∙ ap (λ (z : HalfEdge). is_among z.on_left ids || is_among z.on_right ids) b.0
+sides_of_half x h k ids (inr b) = or_comm (is_among x.left_face ids) (is_among x.right_face ids) ∙ ap (λ (z : HalfEdge). is_among z.on_left ids || is_among z.on_right ids) b.0
 
 -- ---- the joined edge
 -- it has the points of the two, and the faces of each beside it

@@ -14,7 +14,7 @@ use Rattle.drawing.specs.Faced.{is_in}
 use Rattle.drawing.specs.Faces.{is_border}
 use Rattle.parity_laws.proofs.JoinedFaces.{JoinedNumber, Kind, kind_of, number_gone, number_joined, number_other}
 use Rattle.parity_laws.proofs.JoinedFaces.Kind.{Joined, Gone, Other}
-use Rattle.parity_laws.proofs.Sums.{summing}
+use Rattle.parity_laws.proofs.Sums.{xor_four}
 use Rattle.face_laws.proofs.InFace.{in_by, in_out}
 use Rattle.subdivision_laws.specs.Subdivided.{IsSubdivided}
 use Rattle.point_laws.proofs.CutParity.{total, weight}
@@ -62,13 +62,10 @@ weight_joined l r k q x y differ h =
     (λ i. cond (border i) (is_odd_over_at q (segments_of (h.geom i))) false)
     ∙ in_two (is_border l y) (is_border r y) (is_odd_over_at q (segments_of y.geom))
   where
-    four : (a b c d : Bool) → xor (xor a b) (xor c d) ≡ xor (xor a c) (xor b d)
-    four a b c d = simp summing
-
     border : is_border k x ≡ xor (is_border l y) (is_border r y)
     border =
         (λ i. xor (sym (number_joined l r k y.left_face x.left_face differ h.left) i) (sym (number_joined l r k y.right_face x.right_face differ h.right) i))
-        ∙ four (eqb y.left_face l) (eqb y.left_face r) (eqb y.right_face l) (eqb y.right_face r)
+        ∙ xor_four (eqb y.left_face l) (eqb y.left_face r) (eqb y.right_face l) (eqb y.right_face r)
 
 weight_other : (l r k g : ℕ) (q : RationalPoint) (x y : Edge) → IsJoined l r k x y → g ≢ k → g ≢ l → g ≢ r → weight g q x ≡ weight g q y
 unfolding weight
@@ -82,10 +79,7 @@ total_joined l r k q [] (y ∷ ys) differ h = absurd h
 total_joined l r k q (x ∷ xs) [] differ h = absurd h
 total_joined l r k q (x ∷ xs) (y ∷ ys) differ h =
     (λ i. xor (weight_joined l r k q x y differ h.0 i) (total_joined l r k q xs ys differ h.1 i))
-    ∙ four (weight l q y) (weight r q y) (total l q ys) (total r q ys)
-  where
-    four : (a b c d : Bool) → xor (xor a b) (xor c d) ≡ xor (xor a c) (xor b d)
-    four a b c d = simp summing
+    ∙ xor_four (weight l q y) (weight r q y) (total l q ys) (total r q ys)
 
 pub total_other : (l r k g : ℕ) (q : RationalPoint) (xs ys : List Edge) → Pairs (IsJoined l r k) xs ys → g ≢ k → g ≢ l → g ≢ r → total g q xs ≡ total g q ys
 unfolding total

@@ -18,7 +18,7 @@ use Rattle.drawing.specs.Subdivision.{is_above, is_layer_known, is_row_of}
 use Rattle.plane.proofs.ListTests.{some_same}
 use Rattle.drawing.proofs.Members.{contains-filtered, contains-found, contains-mapped}
 use Rattle.reference_laws.proofs.Followed.{each_row}
-use Rattle.reference_laws.proofs.KnownRows.{IsRow, KnowsRows, has_listed, hierarchical_of}
+use Rattle.reference_laws.proofs.KnownRows.{IsRow, HasKnownRows, has_listed, hierarchical_of}
 use Rattle.ring_laws.proofs.Known.{all_out}
 use Rattle.point_laws.specs.PointsStay.{SamePoints}
 
@@ -87,7 +87,7 @@ below S l n known level = by l.child_id refl known
     by (Some c) e k = of c (layer_at S c) e refl k
 
 -- a feature that is listed is of the layer below
-pub listed_below : (S : Drawing) (kind : Kind) (n u w : ℕ) → KnowsRows S → HasLevel S kind (suc n) u → Contains (listed_by S u) w → HasLevel S kind n w
+pub listed_below : (S : Drawing) (kind : Kind) (n u w : ℕ) → HasKnownRows S → HasLevel S kind (suc n) u → Contains (listed_by S u) w → HasLevel S kind n w
 listed_below S kind n u w knows h c =
     let (r, (i, own, is)) = row_of S u w c in
     of_row r (each_row S knows r i) own is
@@ -136,14 +136,14 @@ pub record LeavesPoints (S T : Drawing) (P : ℕ → ℕ → Type 0) : Type 0 wh
   pub rows : (kind : Kind) (n u w : ℕ) → HasLevel S kind (suc n) u → P (suc n) u → Contains (listed_by S u) w ↔ Contains (listed_by T u) w
   pub base : (kind : Kind) (u : ℕ) (q : RationalPoint) → HasLevel S kind zero u → P zero u → IsPointOfElements S kind (listed_by S u) q ↔ IsPointOfElements T kind (listed_by T u) q
 
-by_levels : (S T : Drawing) (P : ℕ → ℕ → Type 0) (kind : Kind) (q : RationalPoint) → KnowsRows S → LeavesPoints S T P → StaysBelow S T (λ n u. HasLevel S kind n u × P n u) kind q
+by_levels : (S T : Drawing) (P : ℕ → ℕ → Type 0) (kind : Kind) (q : RationalPoint) → HasKnownRows S → LeavesPoints S T P → StaysBelow S T (λ n u. HasLevel S kind n u × P n u) kind q
 by_levels S T P kind q knows h = record {
   base = λ u k. h.base kind u q k.0 k.1;
   rows = λ n u w k. h.rows kind n u w k.0 k.1;
   down = λ n u w k c. (listed_below S kind n u w knows k.0 c, h.down kind n u w k.0 k.1 c);
 }
 
-pub points_kept : (S T : Drawing) (P : ℕ → ℕ → Type 0) (t : ℕ) → KnowsRows S → LeavesPoints S T P → ((n : ℕ) → P n t) → is_some (feature_at S t) ≡ true → is_some (feature_at T t) ≡ true → SamePoints S T t
+pub points_kept : (S T : Drawing) (P : ℕ → ℕ → Type 0) (t : ℕ) → HasKnownRows S → LeavesPoints S T P → ((n : ℕ) → P n t) → is_some (feature_at S t) ≡ true → is_some (feature_at T t) ≡ true → SamePoints S T t
 points_kept S T P t knows h own before later q = by (feature_at S t) refl before
   where
     of : (row : FeatureRow) → feature_at S t ≡ Some row → (o : Option LayerRow) → layer_at S row.layer_id ≡ o → is_some o ≡ true → IsPointOf S t q ↔ IsPointOf T t q
@@ -160,7 +160,7 @@ points_kept S T P t knows h own before later q = by (feature_at S t) refl before
         (all_out (λ (f : FeatureRow). is_some (layer_at S f.layer_id)) S.features row knows.features (contains-found (λ (f : FeatureRow). feature_id_of f == t) row S.features e).0)
 
 -- the rows of a feature that is above others are of a layer with a child
-pub above_rows : (S : Drawing) (kind : Kind) (n u : ℕ) → KnowsRows S → HasLevel S kind (suc n) u → (r : RelationRow) → Contains S.relations r → r.topogeo_id ≡ u → is_hierarchical S r.layer_id ≡ true
+pub above_rows : (S : Drawing) (kind : Kind) (n u : ℕ) → HasKnownRows S → HasLevel S kind (suc n) u → (r : RelationRow) → Contains S.relations r → r.topogeo_id ≡ u → is_hierarchical S r.layer_id ≡ true
 above_rows S kind n u knows h r i own =
     let k = each_row S knows r i in
     let same : r.layer_id ≡ h.row.layer_id = eqb-true r.layer_id h.row.layer_id (sym (ap (is_row_of r) (ap (feature_at S) own ∙ h.feature)) ∙ k.feature) in

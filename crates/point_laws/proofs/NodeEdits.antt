@@ -2,7 +2,7 @@
 use Rattle.std.proofs.Common.{◌≡◌, ◌∙◌, ℕ, zero, suc, ◌+◌, arith, refl, sym, ap, subst, ⊎_elim, inr, Bool, true, false, cond, not, ◌==◌, eqb-true, List, [], ◌∷◌, ◌++◌, Some}
 use Rattle.std.specs.Prelude.{◌↔◌}
 use Rattle.std.specs.List.{Contains}
-use Rattle.std.proofs.lemmas.List.Elements.{Contains-push_cases}
+use Rattle.std.proofs.lemmas.List.Elements.{Contains-push_cases, Contains-append_left}
 use Rattle.topo_base.specs.Point.{Point}
 use Rattle.topo_base.specs.RationalPoint.{RationalPoint, IsAt}
 use Rattle.topo_base.specs.declared.kind.Kind.{Kind}
@@ -16,11 +16,10 @@ use Rattle.drawing.specs.FeaturePoints.{AtNodes, IsPointOfElements}
 use Rattle.drawing.specs.IsoEdits.{is_in_feature, put_at, with_node}
 use Rattle.drawing.specs.Relations.{features_of, is_among, lists_element, node_type}
 use Rattle.drawing.specs.Rows.{without_row}
-use Rattle.plane.proofs.ListTests.{contains_cases, contains_here, contains_none, contains_there}
 use Rattle.drawing.proofs.Members.{contains-filter, contains-filtered, contains-map, contains-mapped, ids_within}
 use Rattle.drawing.proofs.Ordering.{InOrder}
 use Rattle.reference_laws.proofs.Elements.{is_free}
-use Rattle.reference_laws.proofs.KnownRows.{KnowsRows}
+use Rattle.reference_laws.proofs.KnownRows.{HasKnownRows}
 use Rattle.ring_laws.proofs.Known.{any_out}
 use Rattle.subdivision_laws.specs.Subdivided.{IsSubdivided}
 use Rattle.edit_changes.specs.Evidence.{NodeMayGo}
@@ -53,14 +52,10 @@ nodes_leave S nodes next P s later down puntal = record {
         (λ p. area_to (with_nodes S nodes next) (listed_by S u) q later (area_from S (listed_by S u) q s p), λ p. area_to S (listed_by S u) q s (area_from (with_nodes S nodes next) (listed_by S u) q later p))
 
 -- ---- a node comes
-pub in_front : {X : Type 0} (x : X) (xs ys : List X) → Contains xs x → Contains (xs ++ ys) x
-in_front x [] ys c = absurd (contains_none x c)
-in_front x (z ∷ xs) ys c = ⊎_elim (λ (e : z ≡ x). subst (Contains (z ∷ xs ++ ys)) e (contains_here z (xs ++ ys))) (λ (k : Contains xs x). contains_there x z (xs ++ ys) (in_front x xs ys k)) (contains_cases x z xs c)
-
-pub comes_at : (S : Drawing) (u : ℕ) (q : RationalPoint) (new : NodeRow) (next : Counters) → KnowsRows S → InOrder node_id_of 1 S.next_ids.node S.nodes → new.node_id ≡ S.next_ids.node → HasLevel S Puntal zero u
+pub comes_at : (S : Drawing) (u : ℕ) (q : RationalPoint) (new : NodeRow) (next : Counters) → HasKnownRows S → InOrder node_id_of 1 S.next_ids.node S.nodes → new.node_id ≡ S.next_ids.node → HasLevel S Puntal zero u
     → AtNodes S (listed_by S u) q ↔ AtNodes (with_nodes S (S.nodes ++ new ∷ []) next) (listed_by S u) q
 comes_at S u q new next knows ascend is k = (
-  λ p. (p.0, (in_front p.0 S.nodes (new ∷ []) p.1.0, p.1.1, p.1.2)),
+  λ p. (p.0, (Contains-append_left S.nodes (new ∷ []) p.0 p.1.0, p.1.1, p.1.2)),
   λ p. ⊎_elim (λ (old : Contains S.nodes p.0). (p.0, (old, p.1.1, p.1.2)))
       (λ (fresh : new ≡ p.0). absurd (not_listed (subst (λ (n : NodeRow). Contains (listed_by S u) n.node_id) (sym fresh) (among_out p.0.node_id (listed_by S u) p.1.1))))
       (Contains-push_cases S.nodes new p.0 p.1.0),
@@ -86,7 +81,7 @@ node_more S face p h later t before still =
     next = record (S.next_ids) { node = S.next_ids.node + 1 }
 
 -- ---- a node goes
-pub goes_at : (S : Drawing) (u gone : ℕ) (q : RationalPoint) → KnowsRows S → is_in_feature S node_type gone ≡ false → HasLevel S Puntal zero u
+pub goes_at : (S : Drawing) (u gone : ℕ) (q : RationalPoint) → HasKnownRows S → is_in_feature S node_type gone ≡ false → HasLevel S Puntal zero u
     → AtNodes S (listed_by S u) q ↔ AtNodes (with_nodes S (without_row node_id_of S.nodes gone) S.next_ids) (listed_by S u) q
 goes_at S u gone q knows free k = (
   λ p. (p.0, (contains-filter (λ (row : NodeRow). not (node_id_of row == gone)) p.0 S.nodes p.1.0 (ap not (other p.0.node_id (among_out p.0.node_id (listed_by S u) p.1.1))), p.1.1, p.1.2)),
@@ -108,7 +103,7 @@ node_less S n may h later t before still =
 abbrev Away : Drawing → ℕ → ℕ → ℕ → Type 0
 Away S node n u = IsApartFromNode S node u
 
-moves_at : (S : Drawing) (u node : ℕ) (p : Point) (q : RationalPoint) → KnowsRows S → IsApartFromNode S node u → HasLevel S Puntal zero u
+moves_at : (S : Drawing) (u node : ℕ) (p : Point) (q : RationalPoint) → HasKnownRows S → IsApartFromNode S node u → HasLevel S Puntal zero u
     → AtNodes S (listed_by S u) q ↔ AtNodes (with_nodes S (put_at p node S.nodes) S.next_ids) (listed_by S u) q
 moves_at S u node p q knows apart k = (
   λ r. (r.0, (subst (Contains (put_at p node S.nodes)) (same r.0 (among_out r.0.node_id (listed_by S u) r.1.1)) (contains-map change r.0 S.nodes r.1.0), r.1.1, r.1.2)),

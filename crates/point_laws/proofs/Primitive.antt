@@ -17,7 +17,7 @@ use Rattle.drawing.specs.Subdivision.{is_above, is_layer_known, is_row_of}
 use Rattle.plane.proofs.ListTests.{some_same}
 use Rattle.drawing.proofs.Members.{contains-filter, contains-filtered, contains-found, contains-map, contains-mapped}
 use Rattle.reference_laws.proofs.Followed.{each_row}
-use Rattle.reference_laws.proofs.KnownRows.{KnowsRows, has_listed, has_of, lists_of}
+use Rattle.reference_laws.proofs.KnownRows.{HasKnownRows, has_listed, has_of, lists_of}
 use Rattle.ring_laws.proofs.Known.{all_out, any_out, any_in}
 use Rattle.point_laws.proofs.Levels.{HasLevel, row_of}
 
@@ -47,7 +47,7 @@ pub record IsListing (S : Drawing) (kind : Kind) (u id : ℕ) : Type 0 where
   pub lists : lists_element S (kind_number kind) row.element_id row ≡ true
   pub known : has_of S kind id ≡ true
 
-pub listing : (S : Drawing) (kind : Kind) (u id : ℕ) → KnowsRows S → HasLevel S kind zero u → Contains (listed_by S u) id → IsListing S kind u id
+pub listing : (S : Drawing) (kind : Kind) (u id : ℕ) → HasKnownRows S → HasLevel S kind zero u → Contains (listed_by S u) id → IsListing S kind u id
 listing S kind u id knows h c =
     let (r, (i, own, is)) = row_of S u id c in
     let k = each_row S knows r i in
@@ -69,7 +69,7 @@ pub among_in : (id : ℕ) (ids : List ℕ) → Contains ids id → is_among id i
 among_in id ids c = any_in (λ m. m == id) ids id c (eq-eqb id id refl)
 
 -- each row of such a feature lists an element of its kind
-pub rows_list : (S : Drawing) (kind : Kind) (u : ℕ) → KnowsRows S → HasLevel S kind zero u → (r : RelationRow) → Contains S.relations r → r.topogeo_id ≡ u → lists_element S (kind_number kind) r.element_id r ≡ true
+pub rows_list : (S : Drawing) (kind : Kind) (u : ℕ) → HasKnownRows S → HasLevel S kind zero u → (r : RelationRow) → Contains S.relations r → r.topogeo_id ≡ u → lists_element S (kind_number kind) r.element_id r ≡ true
 rows_list S kind u knows h r i own =
     let k = each_row S knows r i in
     let same : r.layer_id ≡ h.row.layer_id = eqb-true r.layer_id h.row.layer_id (sym (ap (is_row_of r) (ap (feature_at S) own ∙ h.feature)) ∙ k.feature) in
@@ -100,7 +100,7 @@ row_lists S u w r c own is =
     subst (Contains (listed_by S u)) is
     (contains-map (λ (row : RelationRow). row.element_id) r (filter (λ (row : RelationRow). row.topogeo_id == u) S.relations) (contains-filter (λ (row : RelationRow). row.topogeo_id == u) r S.relations c (eq-eqb r.topogeo_id u own)))
 
-pub listed_alike : (S : Drawing) (kind : Kind) (x y u : ℕ) → KnowsRows S → HasLevel S kind zero u → have_same_features S (kind_number kind) x y ≡ true → Contains (listed_by S u) x → Contains (listed_by S u) y
+pub listed_alike : (S : Drawing) (kind : Kind) (x y u : ℕ) → HasKnownRows S → HasLevel S kind zero u → have_same_features S (kind_number kind) x y ≡ true → Contains (listed_by S u) x → Contains (listed_by S u) y
 listed_alike S kind x y u knows h alike c =
     let l = listing S kind u x knows h c in
     let lists : lists_element S (kind_number kind) x l.row ≡ true = ap (λ n. lists_element S (kind_number kind) n l.row) (sym l.element) ∙ l.lists in

@@ -2,7 +2,8 @@
 use Rattle.std.proofs.Common.{◌≡◌, ◌≢◌, ◌∙◌, ℕ, zero, ◌+◌, arith, refl, sym, ap, subst, ◌⊎◌, inl, inr, ⊎_elim, true, false, ◌||◌, ◌==◌, eq-eqb, eqb-true, List, [], ◌∷◌, ◌++◌}
 use Rattle.std.specs.Prelude.{◌↔◌, IsTrue}
 use Rattle.std.specs.List.{Contains, list_all}
-use Rattle.std.proofs.lemmas.Bool.{false≢true, ne_eqb, or_cases, or_left}
+use Rattle.std.proofs.lemmas.Bool.{false≢true, ne_eqb, or_left}
+use Rattle.std.proofs.lemmas.List.Elements.{Contains-append_left, Contains-append_right}
 use Rattle.topo_base.specs.Kinds.{kind_number}
 use Rattle.topo_base.specs.Point.{Point}
 use Rattle.topo_base.specs.RationalPoint.{RationalPoint}
@@ -23,7 +24,7 @@ use Rattle.plane.specs.Segment.{Segment}
 use Rattle.drawing.specs.SplitEdge.{first_part, second_part}
 use Rattle.plane.proofs.LineCuts.{from_on, up_to_on}
 use Rattle.plane.proofs.LineParts.{Cut, cut}
-use Rattle.plane.proofs.ListTests.{contains_cases, contains_here, contains_none, contains_there}
+use Rattle.plane.proofs.ListTests.{contains_cases, contains_here, contains_there}
 use Rattle.drawing.proofs.Members.{ids_differ, ids_within}
 use Rattle.drawing.proofs.Ordering.{InOrder}
 use Rattle.drawing.proofs.PlainSplits.{new_node, one_point}
@@ -32,7 +33,8 @@ use Rattle.plane.proofs.SimpleTests.{Decides-proper}
 use Rattle.face_rings.proofs.FaceBorders.{has_plain_lines}
 use Rattle.face_rings.proofs.HalfLines.{HasPlainLines}
 use Rattle.grid_lines.proofs.Dividing.{part_on}
-use Rattle.reference_laws.proofs.KnownRows.{KnowsRows}
+use Rattle.reference_laws.proofs.KnownRows.{HasKnownRows}
+use Rattle.reference_laws.proofs.DrawingChanges.{one_of_two}
 use Rattle.ring_laws.proofs.Known.{all_out, any_out}
 use Rattle.ring_laws.proofs.SplitSides.{IsSplitInto, split_with}
 use Rattle.subdivision_laws.proofs.CutEdges.{edge_or_not}
@@ -45,10 +47,11 @@ use Rattle.point_laws.specs.PointsStay.{KeepsPoints}
 use Rattle.point_laws.proofs.Told.{IsTold}
 use Rattle.point_laws.proofs.CutParity.{both_same, changed_same}
 use Rattle.point_laws.proofs.SameArea.{IsSameArea, LieOn, has_side, same_area}
-use Rattle.point_laws.proofs.Follow.{above_same_rows, behind, listed_anew, other_same_rows}
+use Rattle.point_laws.proofs.Follow.{above_same_rows, listed_anew, other_same_rows}
 use Rattle.point_laws.proofs.Levels.{HasLevel, points_kept}
-use Rattle.point_laws.proofs.NodeEdits.{comes_at, in_front}
+use Rattle.point_laws.proofs.NodeEdits.{comes_at}
 use Rattle.point_laws.proofs.Primitive.{among_in, among_out, among_same, listing, rows_list}
+use Rattle.point_laws.proofs.EdgesGo.{of_one}
 
 -- ---- a point of a line is on one of its parts
 either_list : {X : Type 0} (x : X) (xs ys : List X) → Contains (xs ++ ys) x → Contains xs x ⊎ Contains ys x
@@ -62,10 +65,10 @@ pub on_parts : (p : Point) (line : List Point) (q : RationalPoint) → Cut p lin
 on_parts p line q c proper (s, (i, on)) = ⊎_elim before onward (either_list s c.pre (c.here ∷ c.post) (subst (λ (ss : List Segment). Contains ss s) c.whole i))
   where
     before : Contains c.pre s → IsOnLine q (line_up_to p line) ⊎ IsOnLine q (line_from p line)
-    before d = inl (s, (subst (λ (ss : List Segment). Contains ss s) (sym c.first) (in_front s c.pre (segment c.here.a p ∷ []) d), on))
+    before d = inl (s, (subst (λ (ss : List Segment). Contains ss s) (sym c.first) (Contains-append_left c.pre (segment c.here.a p ∷ []) s d), on))
 
     in_last : (t : Segment) → t ≡ segment c.here.a p → IsOn q t → IsOnLine q (line_up_to p line)
-    in_last t e k = (segment c.here.a p, (subst (λ (ss : List Segment). Contains ss (segment c.here.a p)) (sym c.first) (behind (segment c.here.a p) c.pre (segment c.here.a p ∷ []) (contains_here (segment c.here.a p) [])), subst (IsOn q) e k))
+    in_last t e k = (segment c.here.a p, (subst (λ (ss : List Segment). Contains ss (segment c.here.a p)) (sym c.first) (Contains-append_right c.pre (segment c.here.a p ∷ []) (segment c.here.a p) (contains_here (segment c.here.a p) [])), subst (IsOn q) e k))
 
     in_rest : (t : Segment) → Contains c.post t → IsOn q t → IsOnLine q (line_from p line)
     in_rest t d k =
@@ -75,7 +78,7 @@ on_parts p line q c proper (s, (i, on)) = ⊎_elim before onward (either_list s 
         c.second.is
 
     proper_here : IsProper c.here
-    proper_here = (Decides-proper c.here).0 (all_out is_proper (segments_of line) c.here proper (subst (λ (ss : List Segment). Contains ss c.here) (sym c.whole) (behind c.here c.pre (c.here ∷ c.post) (contains_here c.here c.post))))
+    proper_here = (Decides-proper c.here).0 (all_out is_proper (segments_of line) c.here proper (subst (λ (ss : List Segment). Contains ss c.here) (sym c.whole) (Contains-append_right c.pre (c.here ∷ c.post) c.here (contains_here c.here c.post))))
 
     here : IsOn q c.here → IsOnLine q (line_up_to p line) ⊎ IsOnLine q (line_from p line)
     here k =
@@ -99,17 +102,10 @@ pub record AreNewIds (S : Drawing) (e : Edge) (id id' : ℕ) : Type 0 where
   pub first : (x : Edge) → Contains S.edges x → x.edge_id ≡ id → x.edge_id ≡ e.edge_id
   pub second : (x : Edge) → Contains S.edges x → x.edge_id ≡ id' → x.edge_id ≡ e.edge_id
 
-one_of_two : (a b w : ℕ) → Contains (a ∷ b ∷ []) w → (a ≡ w) ⊎ (b ≡ w)
-one_of_two a b w c =
-    ⊎_elim (λ (e : a ≡ w). inl e) (λ (k : Contains (b ∷ []) w). ⊎_elim (λ (e : b ≡ w). inr e) (λ (n : Contains [] w). absurd (contains_none w n)) (contains_cases w b [] k)) (contains_cases w a (b ∷ []) c)
-
 not_old : (w n : ℕ) → (w ≡ n → ⊥) → is_among w (n ∷ []) ≡ false
 not_old w n far = ap (λ b. b || false) (ne_eqb n w (λ e. far (sym e)))
 
-old_only : (w n : ℕ) → is_among w (n ∷ []) ≡ true → w ≡ n
-old_only w n h = ⊎_elim (λ (e : (n == w) ≡ true). sym (eqb-true n w e)) (λ (e : false ≡ true). absurd cc) (or_cases (n == w) false h)
-
-split_lineal : (S : Drawing) (e : Edge) (p : Point) (id id' : ℕ) (fs : List Edge) (ids : Counters) (u : ℕ) (q : RationalPoint) → KnowsRows S → HasPlainLines S → IsSplitInto S e p id id' fs → AreNewIds S e id id' → HasLevel S Lineal zero u
+split_lineal : (S : Drawing) (e : Edge) (p : Point) (id id' : ℕ) (fs : List Edge) (ids : Counters) (u : ℕ) (q : RationalPoint) → HasKnownRows S → HasPlainLines S → IsSplitInto S e p id id' fs → AreNewIds S e id id' → HasLevel S Lineal zero u
     → OnEdges S (listed_by S u) q
     ↔ OnEdges (split_with S p fs (follow S edge_type (e.edge_id ∷ []) (id ∷ id' ∷ [])) ids) (listed_by (split_with S p fs (follow S edge_type (e.edge_id ∷ []) (id ∷ id' ∷ [])) ids) u) q
 split_lineal S e p id id' fs ids u q knows good split new k = (to, from)
@@ -148,7 +144,7 @@ split_lineal S e p id id' fs ids u q knows good split new k = (to, from)
         let same : there.0.edge_id ≡ w = eqb-true there.0.edge_id w there.1.1 in
         absurd (false≢true (sym l.1 ∙ or_left (e.edge_id == w) false (eq-eqb e.edge_id w (sym (only there.0 there.1.0 same) ∙ same)))))
         (λ (r : Contains (id ∷ id' ∷ []) w × ((o : ℕ) × (Contains (listed_by S u) o × (is_among o (e.edge_id ∷ []) ≡ true)))).
-        subst (Contains (listed_by S u)) (old_only r.1.0 e.edge_id r.1.1.1) r.1.1.0)
+        subst (Contains (listed_by S u)) (of_one r.1.0 e.edge_id r.1.1.1) r.1.1.0)
         ((lists w).0 (among_out w (listed_by T u) among))
 
     from : OnEdges T (listed_by T u) q → OnEdges S (listed_by S u) q

@@ -2,12 +2,12 @@
 use Rattle.drawing.specs.Drawing.{Drawing}
 use Rattle.edit_changes.proofs.IdsOrdering.{AllInOrder, order_of}
 use Rattle.relation_rows.proofs.KnownFeatures.{references_parts}
-use Rattle.reference_laws.proofs.KnownRows.{KnowsRows}
+use Rattle.reference_laws.proofs.KnownRows.{HasKnownRows}
 use Rattle.subdivision_laws.specs.Subdivided.{IsSubdivided}
 
 pub record IsTold (S : Drawing) : Type 0 where
   pub before : IsSubdivided S
-  pub rows : KnowsRows S
+  pub rows : HasKnownRows S
   pub order : AllInOrder S
 
 pub told : (S : Drawing) → IsSubdivided S → IsTold S

@@ -21,9 +21,10 @@ use Rattle.edit_changes.proofs.IdsOrdering.{either_id}
 use Rattle.ring_laws.proofs.EdgesCome.{one_division, two_division}
 use Rattle.ring_laws.proofs.Known.{any_more}
 use Rattle.ring_laws.proofs.KnownStays.{AreParts, without_edge}
-use Rattle.reference_laws.proofs.Elements.{areal_from, areal_kept, has_changed, has_same, has_without, is_free, nodes_put, some_face}
+use Rattle.reference_laws.proofs.Elements.{areal_from, areal_kept, has_same, has_without, is_free, nodes_put, some_face}
 use Rattle.reference_laws.proofs.Followed.{rows_follow, rows_stay}
-use Rattle.reference_laws.proofs.KnownRows.{IsTold, KnowsRows, has_of}
+use Rattle.reference_laws.proofs.KnownRows.{IsTold, HasKnownRows, has_of}
+use Rattle.topo_tables.proofs.RowChanges.{has_changed}
 
 -- each element that is listed stays so
 pub record HasMore (S T : Drawing) : Type 0 where
@@ -36,20 +37,20 @@ more_of S T more Puntal id h = more.nodes id h
 more_of S T more Lineal id h = more.edges id h
 more_of S T more Areal id h = areal_kept S T id (more.faces id) h
 
-rows_more : (S T : Drawing) → T.features ≡ S.features → T.layers ≡ S.layers → T.relations ≡ S.relations → HasMore S T → KnowsRows S → KnowsRows T
+rows_more : (S T : Drawing) → T.features ≡ S.features → T.layers ≡ S.layers → T.relations ≡ S.relations → HasMore S T → HasKnownRows S → HasKnownRows T
 rows_more S T features layers relations more knows = rows_stay S T features layers relations (λ r kind c lists has. more_of S T more kind r.element_id has) knows
 
 -- ---- isolated nodes
-pub node_came : (S : Drawing) (face : Option ℕ) (p : Point) → KnowsRows S → KnowsRows (with_node S face p)
+pub node_came : (S : Drawing) (face : Option ℕ) (p : Point) → HasKnownRows S → HasKnownRows (with_node S face p)
 node_came S face p knows =
     rows_more S (with_node S face p) refl refl refl (record { nodes = λ n h. any_more (λ r. node_id_of r == n) S.nodes _ h; edges = λ n h. h; faces = λ n h. h }) knows
 
-pub node_moved : (S : Drawing) (n : ℕ) (p : Point) → KnowsRows S → KnowsRows (record S { nodes = put_at p n S.nodes })
+pub node_moved : (S : Drawing) (n : ℕ) (p : Point) → HasKnownRows S → HasKnownRows (record S { nodes = put_at p n S.nodes })
 node_moved S n p knows =
     rows_more S (record S { nodes = put_at p n S.nodes }) refl refl refl
     (record { nodes = λ m h. has_changed node_id_of S.nodes n m (λ (r : NodeRow). record r { geom = p }) (λ r. refl) ∙ h; edges = λ m h. h; faces = λ m h. h }) knows
 
-pub node_gone : (S : Drawing) (n : ℕ) → is_in_feature S node_type n ≡ false → KnowsRows S → KnowsRows (record S { nodes = without_row node_id_of S.nodes n })
+pub node_gone : (S : Drawing) (n : ℕ) → is_in_feature S node_type n ≡ false → HasKnownRows S → HasKnownRows (record S { nodes = without_row node_id_of S.nodes n })
 node_gone S n free knows = rows_stay S T refl refl refl stays knows
   where
     T : Drawing
@@ -61,12 +62,12 @@ node_gone S n free knows = rows_stay S T refl refl refl stays knows
     stays r Areal c lists has = has
 
 -- ---- edges that divide no face
-pub edge_came : (S : Drawing) (a b : NodeRow) (line : List Point) (f : ℕ) → KnowsRows S → KnowsRows (with_edge S a b line f)
+pub edge_came : (S : Drawing) (a b : NodeRow) (line : List Point) (f : ℕ) → HasKnownRows S → HasKnownRows (with_edge S a b line f)
 edge_came S a b line f knows =
     rows_more S (with_edge S a b line f) refl refl refl
     (record { nodes = λ n h. nodes_put None a.node_id b.node_id S.nodes n ∙ h; edges = λ n h. any_more (λ x. edge_id_of x == n) S.edges _ h; faces = λ n h. h }) knows
 
-pub lone_gone : (S : Drawing) (e : Edge) → is_in_feature S edge_type e.edge_id ≡ false → KnowsRows S → KnowsRows (without_edge S e)
+pub lone_gone : (S : Drawing) (e : Edge) → is_in_feature S edge_type e.edge_id ≡ false → HasKnownRows S → HasKnownRows (without_edge S e)
 lone_gone S e free knows = rows_stay S (without_edge S e) refl refl refl stays knows
   where
     stays : (r : RelationRow) (kind : Kind) → Contains S.relations r → lists_element S (kind_number kind) r.element_id r ≡ true → has_of S kind r.element_id ≡ true → has_of (without_edge S e) kind r.element_id ≡ true
@@ -89,7 +90,7 @@ not_one a n h = ne_eqb n a (λ e. eqb-false a n (or_parts (a == n) false h).0 (s
 pub one_of_two : (a b n : ℕ) → Contains (a ∷ b ∷ []) n → (a ≡ n) ⊎ (b ≡ n)
 one_of_two a b n c = ⊎_elim (λ (e : a ≡ n). inl e) (λ (d : Contains (b ∷ []) n). ⊎_elim (λ (e : b ≡ n). inr e) (λ (k : Contains [] n). absurd (contains_none n k)) (contains_cases n b [] d)) (contains_cases n a (b ∷ []) c)
 
-face_divides : (T : Drawing) (d : Division) (faces : List ℕ) (new : ℕ) → AreParts T d faces → AreSome T d → KnowsRows T → KnowsRows (divided T d faces new)
+face_divides : (T : Drawing) (d : Division) (faces : List ℕ) (new : ℕ) → AreParts T d faces → AreSome T d → HasKnownRows T → HasKnownRows (divided T d faces new)
 face_divides T d faces new parts some knows =
     rows_follow T U face_type (d.face ∷ []) (d.left_part ∷ d.right_part ∷ []) refl refl refl (record { kept = λ r kind c lists old has. kept r.element_id kind old has; made = λ r kind id c is lists old has d. made r.element_id id kind is old has d }) knows
   where
@@ -113,7 +114,7 @@ face_divides T d faces new parts some knows =
 
 -- with one new face, and with two
 pub face_divided : (S : Drawing) (a b : NodeRow) (line : List Point) (d : Division) → EdgeMayCome S a b line d.face → d ≡ one_new (with_edge S a b line d.face) d.face (left_ring S a b line d.face) (right_ring S a b line d.face) → IsTold S
-    → KnowsRows (divided (with_edge S a b line d.face) d (S.faces ++ S.next_ids.face ∷ []) 1)
+    → HasKnownRows (divided (with_edge S a b line d.face) d (S.faces ++ S.next_ids.face ∷ []) 1)
 face_divided S a b line d k is h = face_divides T d _ 1 (one_division S a b line d k is h.rings.ringed.known) (subst (AreSome T) (sym is) some) (edge_came S a b line d.face h.rows)
   where
     T : Drawing
@@ -126,7 +127,7 @@ face_divided S a b line d k is h = face_divides T d _ 1 (one_division S a b line
     }
 
 pub face_divided_anew : (S : Drawing) (a b : NodeRow) (line : List Point) (d : Division) → d.face ≢ 0 → d ≡ two_new (with_edge S a b line d.face) d.face (left_ring S a b line d.face) (right_ring S a b line d.face) → IsTold S
-    → KnowsRows (divided (with_edge S a b line d.face) d (filter (λ g. not (g == d.face)) S.faces ++ S.next_ids.face ∷ (S.next_ids.face + 1) ∷ []) 2)
+    → HasKnownRows (divided (with_edge S a b line d.face) d (filter (λ g. not (g == d.face)) S.faces ++ S.next_ids.face ∷ (S.next_ids.face + 1) ∷ []) 2)
 face_divided_anew S a b line d some is h = face_divides T d _ 2 (two_division S a b line d some is h.rings.ringed.known) (subst (AreSome T) (sym is) (record { left = λ has. h.next_some; right = λ has. next_some S.next_ids.face })) (edge_came S a b line d.face h.rows)
   where
     T : Drawing

@@ -28,7 +28,7 @@ use Rattle.ring_laws.proofs.SplitSides.{IsSplitInto, split_with}
 use Rattle.reference_laws.proofs.DrawingChanges.{not_one, one_of_two, only_one}
 use Rattle.reference_laws.proofs.Elements.{areal_from, areal_kept, has_same, has_without, is_free, none_as_same, none_in, same_as_none, universe_unlisted}
 use Rattle.reference_laws.proofs.Followed.{each_row, rows_follow}
-use Rattle.reference_laws.proofs.KnownRows.{IsTold, KnowsRows, has_of}
+use Rattle.reference_laws.proofs.KnownRows.{IsTold, HasKnownRows, has_of}
 use Rattle.ring_laws.proofs.Joint.{IsHealed}
 
 -- ---- an edge goes
@@ -36,8 +36,8 @@ use Rattle.ring_laws.proofs.Joint.{IsHealed}
 abbrev MayList : Drawing → List ℕ → ℕ → Type 0
 MayList S gone kept = (r : RelationRow) → Contains S.relations r → lists_element S face_type r.element_id r ≡ true → is_among r.element_id gone ≡ true → eqb kept 0 ≡ false
 
-merged : (S : Drawing) (e : Edge) (gone : List ℕ) (kept : ℕ) (faces : List ℕ) (next : ℕ) → is_in_feature S edge_type e.edge_id ≡ false → AreMerged S gone kept faces → MayList S gone kept → KnowsRows S
-    → KnowsRows (record (without_edge S e gone kept faces) { next_ids = record (S.next_ids) { face = next } })
+merged : (S : Drawing) (e : Edge) (gone : List ℕ) (kept : ℕ) (faces : List ℕ) (next : ℕ) → is_in_feature S edge_type e.edge_id ≡ false → AreMerged S gone kept faces → MayList S gone kept → HasKnownRows S
+    → HasKnownRows (record (without_edge S e gone kept faces) { next_ids = record (S.next_ids) { face = next } })
 merged S e gone kept faces next free made may knows =
     rows_follow S U face_type gone (kept ∷ []) refl refl refl (record { kept = λ r kind c lists old has. stays r kind c lists old has; made = λ r kind id c is lists old has d. comes r kind id c is lists old d }) knows
   where
@@ -64,12 +64,12 @@ merged S e gone kept faces next free made may knows =
     comes r Areal id c is lists old d =
         ⊎_elim (λ (q : kept ≡ id). subst (λ n. has_of U Areal n ≡ true) q (areal_from U kept (may r c lists old) made.stays)) (λ (k : Contains [] id). absurd (contains_none id k)) (contains_cases id kept [] d)
 
-pub edge_gone : (S : Drawing) (e : Edge) → EdgeMayGo S e → IsTold S → KnowsRows (without_edge S e [] e.left_face S.faces)
+pub edge_gone : (S : Drawing) (e : Edge) → EdgeMayGo S e → IsTold S → HasKnownRows (without_edge S e [] e.left_face S.faces)
 edge_gone S e k h =
     merged S e [] e.left_face S.faces S.next_ids.face k.unlisted (none_merged S e.left_face h.rings.ringed.known.universe (h.rings.ringed.known.sides e k.there).0) (λ r c lists old. absurd (false≢true old)) h.rows
 
 -- a face that goes into face 0 is listed by no row, as face 0 is
-goes_unlisted : (S : Drawing) (e : Edge) (kept goes : ℕ) → FacesMayJoin S e → AreSides e kept goes → KnowsRows S → kept ≡ 0 → features_of S face_type goes ≡ []
+goes_unlisted : (S : Drawing) (e : Edge) (kept goes : ℕ) → FacesMayJoin S e → AreSides e kept goes → HasKnownRows S → kept ≡ 0 → features_of S face_type goes ≡ []
 goes_unlisted S e kept goes k sides knows zero =
     let none : features_of S face_type kept ≡ [] = ap (features_of S face_type) zero ∙ universe_unlisted S (each_row S knows) in
     ⊎_elim
@@ -81,7 +81,7 @@ goes_unlisted S e kept goes k sides knows zero =
     none_as_same (features_of S face_type goes) (subst (λ ns. bytes_eq (features_of S face_type goes) ns ≡ true) none alike))
     sides
 
-pub faces_joined : (S : Drawing) (e : Edge) (kept goes : ℕ) → FacesMayJoin S e → AreSides e kept goes → goes ≢ 0 → IsTold S → KnowsRows (without_edge S e (goes ∷ []) kept (without_faces S (goes ∷ [])))
+pub faces_joined : (S : Drawing) (e : Edge) (kept goes : ℕ) → FacesMayJoin S e → AreSides e kept goes → goes ≢ 0 → IsTold S → HasKnownRows (without_edge S e (goes ∷ []) kept (without_faces S (goes ∷ [])))
 faces_joined S e kept goes k sides some h =
     let b = beside S e kept goes k sides h.rings.ringed.known in
     merged S e (goes ∷ []) kept (without_faces S (goes ∷ [])) S.next_ids.face k.edge.unlisted (one_merged S goes kept h.rings.ringed.known.universe b.listed some b.differ) may h.rows
@@ -90,7 +90,7 @@ faces_joined S e kept goes k sides some h =
     may r c lists old = ne_eqb kept 0 (λ zero. none_in S face_type goes (goes_unlisted S e kept goes k sides h.rows zero) r c (subst (λ n. lists_element S face_type n r ≡ true) (only_one goes r.element_id old) lists))
 
 pub faces_joined_anew : (S : Drawing) (e : Edge) → EdgeMayGo S e → e.left_face ≢ 0 → e.right_face ≢ 0 → IsTold S
-    → KnowsRows (record (without_edge S e (e.left_face ∷ e.right_face ∷ []) S.next_ids.face (without_faces S (e.left_face ∷ e.right_face ∷ []) ++ S.next_ids.face ∷ [])) { next_ids = record (S.next_ids) { face = S.next_ids.face + 1 } })
+    → HasKnownRows (record (without_edge S e (e.left_face ∷ e.right_face ∷ []) S.next_ids.face (without_faces S (e.left_face ∷ e.right_face ∷ []) ++ S.next_ids.face ∷ [])) { next_ids = record (S.next_ids) { face = S.next_ids.face + 1 } })
 faces_joined_anew S e k left right h =
     let new = S.next_ids.face in
     merged S e (e.left_face ∷ e.right_face ∷ []) new _ (new + 1) k.unlisted (both_merged S e.left_face e.right_face new h.rings.ringed.known.universe left right) (λ r c lists old. h.next_some) h.rows
@@ -102,7 +102,7 @@ record EdgesFollow (S T : Drawing) (old new : List ℕ) : Type 0 where
   made : (id : ℕ) → Contains new id → has_edge T id ≡ true
   faces : T.faces ≡ S.faces
 
-edges_follow : (S T : Drawing) (old new : List ℕ) → T.features ≡ S.features → T.layers ≡ S.layers → T.relations ≡ follow S edge_type old new → EdgesFollow S T old new → KnowsRows S → KnowsRows T
+edges_follow : (S T : Drawing) (old new : List ℕ) → T.features ≡ S.features → T.layers ≡ S.layers → T.relations ≡ follow S edge_type old new → EdgesFollow S T old new → HasKnownRows S → HasKnownRows T
 edges_follow S T old new features layers relations h knows =
     rows_follow S T edge_type old new features layers relations (record { kept = λ r kind c lists off has. stays r kind c lists off has; made = λ r kind id c is lists among has d. comes kind id is d }) knows
   where
@@ -124,7 +124,7 @@ edge_there : (T : Drawing) (x : Edge) (id : ℕ) → Contains T.edges x → x.ed
 edge_there T x id c is = any_in (λ (y : Edge). edge_id_of y == id) T.edges x c (eq-eqb x.edge_id id is)
 
 -- both parts are in the place of the edge that is cut
-pub edge_cut : (S : Drawing) (e : Edge) (p : Point) (id id' : ℕ) (fs : List Edge) (ids : Counters) → IsSplitInto S e p id id' fs → KnowsRows S → KnowsRows (split_with S p fs (follow S edge_type (e.edge_id ∷ []) (id ∷ id' ∷ [])) ids)
+pub edge_cut : (S : Drawing) (e : Edge) (p : Point) (id id' : ℕ) (fs : List Edge) (ids : Counters) → IsSplitInto S e p id id' fs → HasKnownRows S → HasKnownRows (split_with S p fs (follow S edge_type (e.edge_id ∷ []) (id ∷ id' ∷ [])) ids)
 edge_cut S e p id id' fs ids split knows = edges_follow S T (e.edge_id ∷ []) (id ∷ id' ∷ []) refl refl refl (record {
   nodes = λ r c lists has. any_more (λ (m : NodeRow). node_id_of m == r.element_id) S.nodes _ has;
   kept = λ x c off. split.old x c (λ same. eqb-false x.edge_id e.edge_id (not_one e.edge_id x.edge_id off) same);
@@ -136,8 +136,8 @@ edge_cut S e p id id' fs ids split knows = edges_follow S T (e.edge_id ∷ []) (
     T = split_with S p fs (follow S edge_type (e.edge_id ∷ []) (id ∷ id' ∷ [])) ids
 
 -- the joined edge is in the place of the two
-pub edges_joined : (S : Drawing) (n : ℕ) (e f : Edge) (id : ℕ) (fs : List Edge) (ids : Counters) → is_in_feature S node_type n ≡ false → IsHealed S n e f id fs → KnowsRows S
-    → KnowsRows (healed_with S n fs (follow S edge_type (e.edge_id ∷ f.edge_id ∷ []) (id ∷ [])) ids)
+pub edges_joined : (S : Drawing) (n : ℕ) (e f : Edge) (id : ℕ) (fs : List Edge) (ids : Counters) → is_in_feature S node_type n ≡ false → IsHealed S n e f id fs → HasKnownRows S
+    → HasKnownRows (healed_with S n fs (follow S edge_type (e.edge_id ∷ f.edge_id ∷ []) (id ∷ [])) ids)
 edges_joined S n e f id fs ids free healed knows = edges_follow S T (e.edge_id ∷ f.edge_id ∷ []) (id ∷ []) refl refl refl (record {
   nodes = λ r c lists has. has_without node_id_of S.nodes n r.element_id (is_free S node_type n free r c lists) has;
   kept = λ x c off.

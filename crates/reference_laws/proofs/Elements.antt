@@ -12,22 +12,19 @@ use Rattle.topo_base.specs.declared.rows.RelationRow.{RelationRow}
 use Rattle.drawing.specs.Drawing.{Drawing, has_face, node_id_of}
 use Rattle.drawing.specs.IsoEdits.{is_in_feature, put_in_face}
 use Rattle.drawing.specs.Relations.{face_type, features_of, is_hierarchical, lists_element}
-use Rattle.drawing.specs.Rows.{has_row, with_change, without_row}
+use Rattle.drawing.specs.Rows.{has_row, without_row}
 use Rattle.drawing.specs.Subdivision.{face_id_of}
 use Rattle.plane.proofs.ListTests.{contains_here, contains_none, contains_there}
 use Rattle.drawing.proofs.Members.{contains-filter, ids_within}
 use Rattle.drawing.proofs.Ordering.{InOrder}
-use Rattle.edit_changes.proofs.IdsOrdering.{either_id}
 use Rattle.ring_laws.proofs.Known.{any_filtered, any_out}
 use Rattle.reference_laws.proofs.KnownRows.{IsRow, has_listed, has_of, lists_primitive, number_in}
+use Rattle.topo_tables.proofs.RowChanges.{has_changed}
 
 -- ---- rows of a table
 pub has_same : {R : Type 0} (id : R → ℕ) (change : R → R) (rows : List R) (n : ℕ) → ((r : R) → id (change r) ≡ id r) → has_row id (map change rows) n ≡ has_row id rows n
 has_same id change [] n keeps = refl
 has_same id change (r ∷ rows) n keeps = let first = keeps r in let rest = has_same id change rows n keeps in λ i. eqb (first i) n || rest i
-
-pub has_changed : {R : Type 0} (id : R → ℕ) (rows : List R) (m n : ℕ) (change : R → R) → ((r : R) → id (change r) ≡ id r) → has_row id (with_change id rows m change) n ≡ has_row id rows n
-has_changed {R = R} id rows m n change keeps = has_same id (λ r. cond (eqb (id r) m) (change r) r) rows n (λ r. either_id id (eqb (id r) m) (change r) r (id r) (keeps r) refl)
 
 pub has_without : {R : Type 0} (id : R → ℕ) (rows : List R) (m n : ℕ) → eqb n m ≡ false → has_row id rows n ≡ true → has_row id (without_row id rows m) n ≡ true
 has_without id rows m n other h = any_filtered (λ r. id r == n) (λ r. not (id r == m)) rows (λ r e. ap not (ap (λ k. eqb k m) (eqb-true (id r) n e) ∙ other)) h

@@ -22,9 +22,10 @@ use Rattle.drawing.proofs.Members.{contains-filtered, contains-found, contains-m
 use Rattle.drawing.proofs.Ordering.{InOrder}
 use Rattle.drawing.proofs.RowLemmas.{row_at-without_other}
 use Rattle.relation_rows.proofs.Putting.{AllAfter, Ascend, ascend_of}
+use Rattle.relation_rows.proofs.MergedInto.{ascend_test, ascend_ordered}
 use Rattle.ring_laws.proofs.Known.{all_in, all_out, any_in}
-use Rattle.reference_laws.proofs.Followed.{ascend_ordered, ascend_test, each_row, in_ordered}
-use Rattle.reference_laws.proofs.KnownRows.{IsRow, KnowsRows, has_listed, has_of, hierarchical_of, row_from}
+use Rattle.reference_laws.proofs.Followed.{each_row, in_ordered}
+use Rattle.reference_laws.proofs.KnownRows.{IsRow, HasKnownRows, has_listed, has_of, hierarchical_of, row_from}
 use Rattle.edit_changes.specs.Evidence.{FeatureMayCome}
 use Rattle.reference_laws.proofs.LayerChanges.{ascend_filter, found_more, found_new, rule_parts}
 
@@ -94,8 +95,8 @@ below_new S r ordered k = by (feature_at S r.topogeo_id) refl k.feature
         let c = contains-found (λ x. feature_id_of x == r.topogeo_id) t S.features e in
         subst (λ n. n < S.next_ids.feature) (eqb-true t.feature_id r.topogeo_id c.1) (ids_within feature_id_of 1 S.next_ids.feature S.features t ordered c.0).1
 
-pub feature_came : (S : Drawing) (l : LayerRow) (xs : List Pair) → FeatureMayCome S l xs → InOrder feature_id_of 1 S.next_ids.feature S.features → KnowsRows S
-    → KnowsRows (with_features S (S.features ++ record { feature_id = S.next_ids.feature; layer_id = l.layer_id } ∷ []) (S.relations ++ ordered (map (row_for S.next_ids.feature l.layer_id) xs)) (S.next_ids.feature + 1))
+pub feature_came : (S : Drawing) (l : LayerRow) (xs : List Pair) → FeatureMayCome S l xs → InOrder feature_id_of 1 S.next_ids.feature S.features → HasKnownRows S
+    → HasKnownRows (with_features S (S.features ++ record { feature_id = S.next_ids.feature; layer_id = l.layer_id } ∷ []) (S.relations ++ ordered (map (row_for S.next_ids.feature l.layer_id) xs)) (S.next_ids.feature + 1))
 feature_came S l xs k below knows = record {
   layers = knows.layers;
   names = knows.names;
@@ -153,8 +154,8 @@ feature_came S l xs k below knows = record {
             by (Some ch) h = feature_more ch (feature_at S x.id) (feature_at T x.id) (more x.id) h
 
 -- ---- a feature goes
-pub feature_gone : (S : Drawing) (t : FeatureRow) → list_any (lists_feature S t.feature_id) S.relations ≡ false → KnowsRows S
-    → KnowsRows (with_features S (without_row feature_id_of S.features t.feature_id) (filter (λ (r : RelationRow). not (r.topogeo_id == t.feature_id)) S.relations) S.next_ids.feature)
+pub feature_gone : (S : Drawing) (t : FeatureRow) → list_any (lists_feature S t.feature_id) S.relations ≡ false → HasKnownRows S
+    → HasKnownRows (with_features S (without_row feature_id_of S.features t.feature_id) (filter (λ (r : RelationRow). not (r.topogeo_id == t.feature_id)) S.relations) S.next_ids.feature)
 feature_gone S t free knows = record {
   layers = knows.layers;
   names = knows.names;

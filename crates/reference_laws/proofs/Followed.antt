@@ -1,7 +1,7 @@
 -- Relation rows that follow elements stay known, and stay in order.
 use Rattle.std.proofs.Common.{◌≡◌, ◌∙◌, ℕ, eqb-true, refl, sym, ap, subst, ◌⊎◌, inl, inr, ⊎_elim, Bool, true, false, not, cond, ◌&&◌, ◌==◌, List, [], ◌∷◌, Option, Some, None, is_some}
 use Rattle.std.specs.List.{Contains, flat_map, list_all}
-use Rattle.std.proofs.lemmas.Bool.{and_from, and_parts}
+use Rattle.std.proofs.lemmas.Bool.{and_parts}
 use Rattle.std.proofs.lemmas.List.Elements.{Contains-append_cases}
 use Rattle.topo_base.specs.Kinds.{kind_number}
 use Rattle.topo_base.specs.declared.kind.Kind.{Kind}
@@ -13,9 +13,9 @@ use Rattle.drawing.specs.Relations.{follow, followed, insert_row, is_among, is_h
 use Rattle.drawing.specs.Subdivision.{is_layer_known, is_row_known, names_differ, rows_ascend}
 use Rattle.plane.proofs.ListTests.{contains_cases, contains_here, contains_none, contains_there}
 use Rattle.drawing.proofs.Members.{contains-mapped}
-use Rattle.relation_rows.proofs.Putting.{Ascend, ascend_put}
+use Rattle.relation_rows.proofs.MergedInto.{ascend_test, ascend_ordered}
 use Rattle.ring_laws.proofs.Known.{all_in, all_out}
-use Rattle.reference_laws.proofs.KnownRows.{IsRow, KnowsRows, has_of, lists_of, lists_primitive, number_in, row_from, row_moves, row_parts}
+use Rattle.reference_laws.proofs.KnownRows.{IsRow, HasKnownRows, has_of, lists_of, lists_primitive, number_in, row_from, row_moves, row_parts}
 
 -- ---- rows in order
 in_put_by : (a b r : RelationRow) (rows : List RelationRow) (x y : Bool) → (Contains (insert_row a rows) r → (a ≡ r) ⊎ Contains rows r)
@@ -35,26 +35,17 @@ in_ordered r [] c = c
 in_ordered r (a ∷ rows) c =
     ⊎_elim (λ (e : a ≡ r). subst (Contains (a ∷ rows)) e (contains_here a rows)) (λ (k : Contains (ordered rows) r). contains_there r a rows (in_ordered r rows k)) (in_put a r (ordered rows) c)
 
-pub ascend_ordered : (rows : List RelationRow) → Ascend (ordered rows)
-ascend_ordered [] = tt
-ascend_ordered (a ∷ rows) = ascend_put a (ordered rows) (ascend_ordered rows)
-
-pub ascend_test : (rows : List RelationRow) → Ascend rows → rows_ascend rows ≡ true
-ascend_test [] h = refl
-ascend_test (a ∷ []) h = refl
-ascend_test (a ∷ b ∷ rest) h = and_from (row_before a b) (rows_ascend (b ∷ rest)) h.0.0 (ascend_test (b ∷ rest) h.1)
-
 -- ---- rows that stay or are replaced
 -- the row was there and stays, or lists a new element in the place of an old one
 pub data Came (S : Drawing) (type : ℕ) (old new : List ℕ) (rows : List RelationRow) (r : RelationRow) : Type 0 where
   Stayed : Contains rows r → (lists_element S type r.element_id r && is_among r.element_id old) ≡ false → Came S type old new rows r
   Replaced : (q : RelationRow) → Contains rows q → (lists_element S type q.element_id q && is_among q.element_id old) ≡ true → (id : ℕ) → Contains new id → record q { element_id = id } ≡ r → Came S type old new rows r
 
-came_more : (S : Drawing) (type : ℕ) (old new : List ℕ) (rows : List RelationRow) (q r : RelationRow) → Came S type old new rows r → Came S type old new (q ∷ rows) r
+pub came_more : (S : Drawing) (type : ℕ) (old new : List ℕ) (rows : List RelationRow) (q r : RelationRow) → Came S type old new rows r → Came S type old new (q ∷ rows) r
 came_more S type old new rows q r (Stayed c h) = Stayed (contains_there r q rows c) h
 came_more S type old new rows q r (Replaced p c h id d e) = Replaced p (contains_there p q rows c) h id d e
 
-came_first : (S : Drawing) (type : ℕ) (old new : List ℕ) (rows : List RelationRow) (q r : RelationRow) (b : Bool) → (lists_element S type q.element_id q && is_among q.element_id old) ≡ b
+pub came_first : (S : Drawing) (type : ℕ) (old new : List ℕ) (rows : List RelationRow) (q r : RelationRow) (b : Bool) → (lists_element S type q.element_id q && is_among q.element_id old) ≡ b
     → Contains (cond b (with_elements new q) (q ∷ [])) r → Came S type old new (q ∷ rows) r
 came_first S type old new rows q r true h c =
     let m = contains-mapped (λ id. record q { element_id = id }) r new c in
@@ -62,7 +53,7 @@ came_first S type old new rows q r true h c =
 came_first S type old new rows q r false h c =
     ⊎_elim (λ (e : q ≡ r). subst (Came S type old new (q ∷ rows)) e (Stayed (contains_here q rows) h)) (λ (k : Contains [] r). absurd (contains_none r k)) (contains_cases r q [] c)
 
-came : (S : Drawing) (type : ℕ) (old new : List ℕ) (rows : List RelationRow) (r : RelationRow) → Contains (flat_map (followed S type old new) rows) r → Came S type old new rows r
+pub came : (S : Drawing) (type : ℕ) (old new : List ℕ) (rows : List RelationRow) (r : RelationRow) → Contains (flat_map (followed S type old new) rows) r → Came S type old new rows r
 came S type old new [] r c = absurd (contains_none r c)
 came S type old new (q ∷ rows) r c =
     ⊎_elim (λ (k : Contains (followed S type old new q) r). came_first S type old new rows q r (lists_element S type q.element_id q && is_among q.element_id old) refl k)
@@ -97,11 +88,11 @@ came_known S T type old new r features layers follows rows (Replaced q c h id d 
     subst (IsRow T) e (row_moves S T q id k features layers (λ ch is. absurd (same_none k.layer.child_id ch lone is))
     (λ none has. follows.made q k.layer.feature_type id c kind_is both.0 both.1 has d))
 
-pub each_row : (S : Drawing) → KnowsRows S → (q : RelationRow) → Contains S.relations q → IsRow S q
+pub each_row : (S : Drawing) → HasKnownRows S → (q : RelationRow) → Contains S.relations q → IsRow S q
 each_row S knows q c = row_parts S q (all_out (is_row_known S) S.relations q knows.relations c)
 
 -- a drawing with the same layers and features, whose rows follow
-pub rows_follow : (S T : Drawing) (type : ℕ) (old new : List ℕ) → T.features ≡ S.features → T.layers ≡ S.layers → T.relations ≡ follow S type old new → Follows S T type old new → KnowsRows S → KnowsRows T
+pub rows_follow : (S T : Drawing) (type : ℕ) (old new : List ℕ) → T.features ≡ S.features → T.layers ≡ S.layers → T.relations ≡ follow S type old new → Follows S T type old new → HasKnownRows S → HasKnownRows T
 rows_follow S T type old new features layers relations follows knows = record {
   layers = (λ i. list_all (λ (l : LayerRow). is_layer_known (record T { layers = layers i }) l l.child_id) (layers i)) ∙ knows.layers;
   names = ap names_differ layers ∙ knows.names;
@@ -115,7 +106,7 @@ rows_follow S T type old new features layers relations follows knows = record {
 -- and one whose rows stay
 pub rows_stay : (S T : Drawing) → T.features ≡ S.features → T.layers ≡ S.layers → T.relations ≡ S.relations
     → ((r : RelationRow) (kind : Kind) → Contains S.relations r → lists_element S (kind_number kind) r.element_id r ≡ true → has_of S kind r.element_id ≡ true → has_of T kind r.element_id ≡ true)
-    → KnowsRows S → KnowsRows T
+    → HasKnownRows S → HasKnownRows T
 rows_stay S T features layers relations kept knows = record {
   layers = (λ i. list_all (λ (l : LayerRow). is_layer_known (record T { layers = layers i }) l l.child_id) (layers i)) ∙ knows.layers;
   names = ap names_differ layers ∙ knows.names;

@@ -124,7 +124,7 @@ row_moves S T r id k features layers same moves = record {
         ap (λ (fs : List FeatureRow). is_feature_of c (row_at feature_id_of fs id)) features ∙ ap (λ n. is_feature_of c (feature_at S n)) (same c e) ∙ h
 
 -- ---- all that is known of layers, features and rows
-pub record KnowsRows (S : Drawing) : Type 0 where
+pub record HasKnownRows (S : Drawing) : Type 0 where
   pub layers : list_all (λ (l : LayerRow). is_layer_known S l l.child_id) S.layers ≡ true
   pub names : names_differ S.layers ≡ true
   pub features : list_all (λ (t : FeatureRow). is_some (layer_at S t.layer_id)) S.features ≡ true
@@ -133,7 +133,7 @@ pub record KnowsRows (S : Drawing) : Type 0 where
 
 -- what a change is told of the drawing before
 pub record IsTold (S : Drawing) : Type 0 where
-  pub rows : KnowsRows S
+  pub rows : HasKnownRows S
   pub rings : IsBefore S
   -- the next face is another than face 0
   pub next_some : eqb S.next_ids.face 0 ≡ false

@@ -22,10 +22,11 @@ use Rattle.plane.proofs.ListTests.{all_weaker}
 use Rattle.drawing.proofs.Ordering.{InOrder}
 use Rattle.drawing.proofs.RowLemmas.{row_at-append}
 use Rattle.relation_rows.proofs.Putting.{AllAfter, Ascend, ascend_of, ascend_put}
+use Rattle.relation_rows.proofs.MergedInto.{ascend_test}
 use Rattle.ring_laws.proofs.Known.{all_in}
 use Rattle.edit_changes.specs.Evidence.{FeatureMayList, IsLevel, LayerMayCome}
-use Rattle.reference_laws.proofs.Followed.{ascend_test, each_row, in_put}
-use Rattle.reference_laws.proofs.KnownRows.{IsRow, KnowsRows, has_listed, has_of, number_in, row_from, row_parts, rule_is}
+use Rattle.reference_laws.proofs.Followed.{each_row, in_put}
+use Rattle.reference_laws.proofs.KnownRows.{IsRow, HasKnownRows, has_listed, has_of, number_in, row_from, row_parts, rule_is}
 
 -- ---- rows that are found
 pub record IsFound {R : Type 0} (o : Option R) : Type 0 where
@@ -74,8 +75,8 @@ names_more (l ∷ ls) new h free =
 some_more : (S T : Drawing) (n : ℕ) → ((m : ℕ) (l : LayerRow) → layer_at S m ≡ Some l → layer_at T m ≡ Some l) → is_some (layer_at S n) ≡ true → is_some (layer_at T n) ≡ true
 some_more S T n more h = let f = found (layer_at S n) h in ap is_some (more n f.row f.is)
 
-layer_more : (S : Drawing) (new : LayerRow) (next : ℕ) → is_name_taken S new.name ≡ false → ((T : Drawing) → T.layers ≡ S.layers ++ new ∷ [] → is_layer_known T new new.child_id ≡ true) → KnowsRows S
-    → KnowsRows (record S { layers = S.layers ++ new ∷ []; next_ids = record (S.next_ids) { layer = next } })
+layer_more : (S : Drawing) (new : LayerRow) (next : ℕ) → is_name_taken S new.name ≡ false → ((T : Drawing) → T.layers ≡ S.layers ++ new ∷ [] → is_layer_known T new new.child_id ≡ true) → HasKnownRows S
+    → HasKnownRows (record S { layers = S.layers ++ new ∷ []; next_ids = record (S.next_ids) { layer = next } })
 layer_more S new next free known knows = record {
   layers = list_all-append (λ (l : LayerRow). is_layer_known T l l.child_id) S.layers (new ∷ [])
       ∙ and_from (list_all (λ (l : LayerRow). is_layer_known T l l.child_id) S.layers) (is_layer_known T new new.child_id && true)
@@ -115,14 +116,14 @@ layer_stands S T new kind (Some child) level k is l t =
     ap (is_above new) (ap (λ (ls : List LayerRow). row_at layer_id_of ls child) is ∙ found_more layer_id_of S.layers new k.row child k.found)
     ∙ and_from (new.level == k.row.level + 1) (same_kind new.feature_type k.row.feature_type) (eq-eqb new.level (k.row.level + 1) (l ∙ sym k.level_is)) (subst (λ a. same_kind a k.row.feature_type ≡ true) (sym t) (kinds_turned k.row.feature_type kind k.kind_is))
 
-pub layer_came : (S : Drawing) (name : List ℕ) (kind : Kind) (child : Option ℕ) (level : ℕ) → LayerMayCome S name kind child level → KnowsRows S
-    → KnowsRows (record S { layers = S.layers ++ record { layer_id = S.next_ids.layer; level = level; child_id = child; feature_type = kind; name = name } ∷ []; next_ids = record (S.next_ids) { layer = S.next_ids.layer + 1 } })
+pub layer_came : (S : Drawing) (name : List ℕ) (kind : Kind) (child : Option ℕ) (level : ℕ) → LayerMayCome S name kind child level → HasKnownRows S
+    → HasKnownRows (record S { layers = S.layers ++ record { layer_id = S.next_ids.layer; level = level; child_id = child; feature_type = kind; name = name } ∷ []; next_ids = record (S.next_ids) { layer = S.next_ids.layer + 1 } })
 layer_came S name kind child level k knows =
     let new : LayerRow = record { layer_id = S.next_ids.layer; level = level; child_id = child; feature_type = kind; name = name } in
     layer_more S new (S.next_ids.layer + 1) k.unnamed (λ T is. layer_stands S T new kind child level k.stands is refl refl) knows
 
 -- ---- rows come and go
-rows_only : (S : Drawing) (rows : List RelationRow) → ((r : RelationRow) → Contains rows r → IsRow S r) → Ascend rows → KnowsRows S → KnowsRows (record S { relations = rows })
+rows_only : (S : Drawing) (rows : List RelationRow) → ((r : RelationRow) → Contains rows r → IsRow S r) → Ascend rows → HasKnownRows S → HasKnownRows (record S { relations = rows })
 rows_only S rows each ascend knows = record {
   layers = knows.layers;
   names = knows.names;
@@ -137,7 +138,7 @@ rule_parts S l x e =
     let both = and_parts (x.element_type == number_in l.feature_type l.child_id) (has_listed S l.feature_type l.child_id x.id) (sym (rule_is S l.feature_type l.child_id x) ∙ ap (λ o. not (is_some o)) e) in
     (eqb-true x.element_type (number_in l.feature_type l.child_id) both.0, both.1)
 
-pub row_came : (S : Drawing) (row : RelationRow) → FeatureMayList S row → KnowsRows S → KnowsRows (record S { relations = insert_row row S.relations })
+pub row_came : (S : Drawing) (row : RelationRow) → FeatureMayList S row → HasKnownRows S → HasKnownRows (record S { relations = insert_row row S.relations })
 row_came S row k knows = rows_only S (insert_row row S.relations) each (ascend_put row S.relations (ascend_of S.relations knows.ascend)) knows
   where
     is : IsRow S row
@@ -165,5 +166,5 @@ pub ascend_filter : (q : RelationRow → Bool) (rows : List RelationRow) → Asc
 ascend_filter q [] h = tt
 ascend_filter q (b ∷ rows) h = let rest = ascend_filter q rows h.1 in cond_both (q b) (b ∷ filter q rows) (filter q rows) Ascend (λ _. (after_filter q b rows h.0, rest)) (λ _. rest)
 
-pub rows_gone : (S : Drawing) (test : RelationRow → Bool) → KnowsRows S → KnowsRows (record S { relations = filter test S.relations })
+pub rows_gone : (S : Drawing) (test : RelationRow → Bool) → HasKnownRows S → HasKnownRows (record S { relations = filter test S.relations })
 rows_gone S test knows = rows_only S (filter test S.relations) (λ r c. each_row S knows r (contains-filtered test r S.relations c).0) (ascend_filter test S.relations (ascend_of S.relations knows.ascend)) knows

@@ -15,7 +15,7 @@ use Rattle.reference_laws.proofs.DrawingChanges.{edge_came, face_divided, face_d
 use Rattle.reference_laws.proofs.EdgeChanges.{edge_cut, edge_gone, edges_joined, faces_joined, faces_joined_anew}
 use Rattle.reference_laws.proofs.Elements.{next_is_some}
 use Rattle.reference_laws.proofs.FeatureChanges.{feature_came, feature_gone}
-use Rattle.reference_laws.proofs.KnownRows.{IsTold, KnowsRows}
+use Rattle.reference_laws.proofs.KnownRows.{IsTold, HasKnownRows}
 use Rattle.reference_laws.proofs.LayerChanges.{layer_came, row_came, rows_gone}
 use Rattle.ring_laws.proofs.EdgesCut.{both_new, one_changed}
 use Rattle.ring_laws.proofs.EdgesJoin.{joined_anew, joined_changed}
@@ -27,7 +27,7 @@ use Rattle.drawing.specs.Change.{Change, NodeComes, NodeMoves, NodeGoes, EdgeCom
 use Rattle.drawing.specs.Relations.{same_row}
 
 -- ---- each change
-change_rows : (S : Drawing) (c : Change) → IsDecided S c → IsTold S → KnowsRows ((apply S c).drawing)
+change_rows : (S : Drawing) (c : Change) → IsDecided S c → IsTold S → HasKnownRows ((apply S c).drawing)
 change_rows S (NodeComes face p) k h = node_came S (Some face) p h.rows
 change_rows S (NodeMoves n p) k h = node_moved S n.node_id p h.rows
 change_rows S (NodeGoes n) k h = node_gone S n.node_id k.unlisted h.rows
@@ -60,7 +60,7 @@ told_of S rings ids known =
     }
 
 -- what is known of rows, and the rings
-known_from : (T : Drawing) → IsRinged T → KnowsRows T → IsTrue (references_known T)
+known_from : (T : Drawing) → IsRinged T → HasKnownRows T → IsTrue (references_known T)
 known_from T rings rows = references_from T (record {
   universe = rings.universe;
   edges = rings.edges;

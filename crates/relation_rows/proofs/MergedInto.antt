@@ -179,7 +179,7 @@ pub follow_two : (S : Drawing) (type l r new : ℕ) (layer : ℕ → ℕ) → Ea
 follow_two S type l r new layer layers = follow_onward S type (l ∷ []) r new layer layers
 
 -- and none
-ordered_is : (rows : List RelationRow) → Ascend rows → ordered rows ≡ rows
+pub ordered_is : (rows : List RelationRow) → Ascend rows → ordered rows ≡ rows
 ordered_is [] h = refl
 ordered_is (a ∷ rows) h = ap (insert_row a) (ordered_is rows h.1) ∙ put_first a rows h.0
 
@@ -195,11 +195,11 @@ pub follow_none : (S : Drawing) (type new : ℕ) → IsTrue (rows_ascend S.relat
 follow_none S type new h = follow_merged S type [] new ∙ ap ordered (none_merged S type new S.relations) ∙ ordered_is S.relations (ascend_of S.relations h)
 
 -- ---- rows of known features: what holds after each call, too
-ascend_ordered : (rows : List RelationRow) → Ascend (ordered rows)
+pub ascend_ordered : (rows : List RelationRow) → Ascend (ordered rows)
 ascend_ordered [] = tt
 ascend_ordered (a ∷ rows) = ascend_put a (ordered rows) (ascend_ordered rows)
 
-ascend_test : (rows : List RelationRow) → Ascend rows → rows_ascend rows ≡ true
+pub ascend_test : (rows : List RelationRow) → Ascend rows → rows_ascend rows ≡ true
 ascend_test [] h = refl
 ascend_test (a ∷ []) h = refl
 ascend_test (a ∷ b ∷ rest) h = and_from (row_before a b) (rows_ascend (b ∷ rest)) h.0.0 (ascend_test (b ∷ rest) h.1)

@@ -202,3 +202,13 @@ adds_put a (b ∷ more) rows h = ap (adds more) (commutes b a rows h.0) ∙ adds
 pub adds_puts : (more rows : List RelationRow) → AgreePairwise more → adds more rows ≡ puts more rows
 adds_puts [] rows h = refl
 adds_puts (a ∷ more) rows h = adds_put a more rows h.0 ∙ ap (insert_row a) (adds_puts more rows h.1)
+
+-- among the rows that pass a test, one that fails it
+put_unlisted_at : (p : RelationRow → Bool) (a b : RelationRow) (rows : List RelationRow) → p a ≡ false → filter p (insert_row a rows) ≡ filter p rows → Stand a b → filter p (insert_row a (b ∷ rows)) ≡ filter p (b ∷ rows)
+put_unlisted_at p a b rows h ih (Before q) = ap (filter p) (put_before a b rows q) ∙ ap (λ t. cond t (a ∷ filter p (b ∷ rows)) (filter p (b ∷ rows))) h
+put_unlisted_at p a b rows h ih (Same q) = ap (filter p) (put_at a b rows q)
+put_unlisted_at p a b rows h ih (After q) = ap (filter p) (put_after a b rows q) ∙ ap (λ l. cond (p b) (b ∷ l) l) ih
+
+pub put_unlisted : (p : RelationRow → Bool) (a : RelationRow) (rows : List RelationRow) → p a ≡ false → filter p (insert_row a rows) ≡ filter p rows
+put_unlisted p a [] h = ap (λ t. cond t (a ∷ []) []) h
+put_unlisted p a (b ∷ rows) h = put_unlisted_at p a b rows h (put_unlisted p a rows h) (stand a b)

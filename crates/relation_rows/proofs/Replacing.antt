@@ -150,7 +150,7 @@ tests_same : (a b : Bool) (n old : ℕ) → ((a && n == n && b) && (old == n || 
 tests_same a b n old = grind (arith, nat_tests)
 
 -- what follows one row
-follows_test : (S : Drawing) (type old : ℕ) (r : RelationRow) → (lists_element S type r.element_id r && is_among r.element_id (old ∷ [])) ≡ lists_element S type old r
+pub follows_test : (S : Drawing) (type old : ℕ) (r : RelationRow) → (lists_element S type r.element_id r && is_among r.element_id (old ∷ [])) ≡ lists_element S type old r
 follows_test S type old r = tests_same (r.element_type == type) (not (is_hierarchical S r.layer_id)) r.element_id old
 
 followed_is : (S : Drawing) (type old : ℕ) (new : List ℕ) (r : RelationRow) (b : Bool) → lists_element S type old r ≡ b → followed S type (old ∷ []) new r ≡ cond b (with_elements new r) (r ∷ [])

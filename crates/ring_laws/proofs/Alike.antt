@@ -12,7 +12,7 @@ use Rattle.drawing.specs.Star.{leaving}
 use Rattle.plane.proofs.Directions.{nearer_self, nearer_total, one_quarter, quarter_of_one, same_in, same_out}
 use Rattle.plane.proofs.Ring.{multiplied, signed}
 use Rattle.plane.proofs.Signs.{mul_not_negative, mul_positive, order}
-use Rattle.ring_laws.proofs.Turning.{AreSpread, Turns, AreJoined}
+use Rattle.ring_laws.proofs.Turning.{AreSpread, Turns, FacesAgree}
 
 -- ---- a point on a segment is in its direction
 axis_some : (a m b : ℤ) → IsBetween a m b → pos 0 ≤ℤ ((b -ℤ a) *ℤ (m -ℤ a))
@@ -127,6 +127,40 @@ pub turned_like : (u v : Direction) → Alike u v → Alike v u
 turned_like u v a = (λ r. sym (a.0 r), λ r. sym (a.1 r))
 
 -- ---- half-edges that stand for others
+-- k leaves its node as h does
+pub record LeavesAs (h k : HalfEdge) : Type 0 where
+  pub node : h.from_node ≡ k.from_node
+  pub way : Alike (leaving h) (leaving k)
+
+-- one of the one list leaves as one of the other does
+pub one_leaves : (hs : List HalfEdge) (h g k : HalfEdge) → AreSpread hs → Contains hs h → Contains hs g → LeavesAs h k → LeavesAs g k → h ≡ g
+one_leaves hs h g k a ch cg l m = a.differ h g ch cg (l.node ∙ sym m.node) (like_one (leaving h) (leaving g) (leaving k) (a.some h ch) (a.some g cg) l.way m.way)
+
+pub leaves_back : (h k : HalfEdge) → LeavesAs h k → LeavesAs k h
+leaves_back h k l = record { node = sym l.node; way = turned_like (leaving h) (leaving k) l.way }
+
+-- what is next stays next, where each at the node stands for one
+pub turns_over : (hs ks : List HalfEdge) (t s t' s' : HalfEdge) → AreSpread hs → AreSpread ks → Turns hs t s → Contains ks t' → Contains ks s' → LeavesAs t t' → LeavesAs s s'
+    → ((k : HalfEdge) → Contains ks k → k.from_node ≡ t'.from_node → (g : HalfEdge) × (Contains hs g × LeavesAs g k)) → Turns ks t' s'
+turns_over hs ks t s t' s' before after turn ct cs a b stood = record {
+  first = ct;
+  second = cs;
+  one_node = sym b.node ∙ turn.one_node ∙ a.node;
+  none_between = λ k ck from other.
+      let (g, (cg, c)) = stood k ck from in
+      sym (near_alike (leaving t) (leaving t') (leaving g) (leaving k) (leaving s) (leaving s') a.way c.way b.way)
+      ∙ turn.none_between g cg (c.node ∙ from ∙ sym a.node) (λ q. other (same_new k ck (subst (λ (z : HalfEdge). LeavesAs z k) q c)));
+  alone = λ q k ck from.
+      let (g, (cg, c)) = stood k ck from in
+      let same : s ≡ t = one_leaves hs s t t' before turn.second turn.first (subst (LeavesAs s) q b) a in
+      let is : g ≡ t = turn.alone same g cg (c.node ∙ from ∙ sym a.node) in
+      same_new k ck (subst (λ (z : HalfEdge). LeavesAs z k) is c);
+}
+  where
+    same_new : (k : HalfEdge) → Contains ks k → LeavesAs t k → k ≡ t'
+    same_new k ck l = one_leaves ks k t' t after ck ct (leaves_back t k l) (leaves_back t t' a)
+
+-- and with the same faces beside it
 pub record IsLike (h k : HalfEdge) : Type 0 where
   pub node : h.from_node ≡ k.from_node
   pub way : Alike (leaving h) (leaving k)
@@ -136,36 +170,21 @@ pub record IsLike (h k : HalfEdge) : Type 0 where
 pub like_self : (h : HalfEdge) → IsLike h h
 like_self h = record { node = refl; way = alike_same (leaving h) (leaving h) refl; left = refl; right = refl }
 
-pub one_like : (hs : List HalfEdge) (h g k : HalfEdge) → AreSpread hs → Contains hs h → Contains hs g → IsLike h k → IsLike g k → h ≡ g
-one_like hs h g k a ch cg l m = a.differ h g ch cg (l.node ∙ sym m.node) (like_one (leaving h) (leaving g) (leaving k) (a.some h ch) (a.some g cg) l.way m.way)
-
-pub other_like : (ks : List HalfEdge) (h k m : HalfEdge) → AreSpread ks → Contains ks k → Contains ks m → IsLike h k → IsLike h m → k ≡ m
-other_like ks h k m a ck cm l n =
-    a.differ k m ck cm (sym l.node ∙ n.node) (like_one (leaving k) (leaving m) (leaving h) (a.some k ck) (a.some m cm) (turned_like (leaving h) (leaving k) l.way) (turned_like (leaving h) (leaving m) n.way))
+pub like_leaves : (h k : HalfEdge) → IsLike h k → LeavesAs h k
+like_leaves h k l = record { node = l.node; way = l.way }
 
 -- at each node but n, those of the one list stand for those of the other
 pub record Correspond (hs ks : List HalfEdge) (n : ℕ) : Type 0 where
   pub found : (k : HalfEdge) → Contains ks k → (k.from_node ≡ n → ⊥) → (h : HalfEdge) × (Contains hs h × IsLike h k)
   pub back : (h : HalfEdge) → Contains hs h → (h.from_node ≡ n → ⊥) → (k : HalfEdge) × (Contains ks k × IsLike h k)
 
-pub joined_like : (hs ks : List HalfEdge) (n : ℕ) → AreSpread hs → AreSpread ks → Correspond hs ks n → AreJoined hs → (t s : HalfEdge) → Turns ks t s → (t.from_node ≡ n → ⊥) → t.on_right ≡ s.on_left
+pub joined_like : (hs ks : List HalfEdge) (n : ℕ) → AreSpread hs → AreSpread ks → Correspond hs ks n → FacesAgree hs → (t s : HalfEdge) → Turns ks t s → (t.from_node ≡ n → ⊥) → t.on_right ≡ s.on_left
 joined_like hs ks n a b both joined t s h far =
     let (t0, (ct, lt)) = both.found t h.first far in
     let (s0, (cs, ls)) = both.found s h.second (λ e. far (sym h.one_node ∙ e)) in
-    sym lt.right ∙ joined t0 s0 (turned t0 s0 ct cs lt ls) ∙ ls.left
-  where
-    turned : (t0 s0 : HalfEdge) → Contains hs t0 → Contains hs s0 → IsLike t0 t → IsLike s0 s → Turns hs t0 s0
-    turned t0 s0 ct cs lt ls = record {
-      first = ct;
-      second = cs;
-      one_node = ls.node ∙ h.one_node ∙ sym lt.node;
-      none_between = λ g cg from other.
-          let (k, (ck, lk)) = both.back g cg (λ e. far (sym lt.node ∙ sym from ∙ e)) in
-          near_alike (leaving t0) (leaving t) (leaving g) (leaving k) (leaving s0) (leaving s) lt.way lk.way ls.way
-          ∙ h.none_between k ck (sym lk.node ∙ from ∙ lt.node) (λ e. other (one_like hs g t0 t a cg ct (subst (IsLike g) e lk) lt));
-      alone = λ e g cg from.
-          let (k, (ck, lk)) = both.back g cg (λ e. far (sym lt.node ∙ sym from ∙ e)) in
-          let one : s ≡ t = other_like ks t0 s t b h.second h.first (subst (λ (z : HalfEdge). IsLike z s) e ls) lt in
-          let same : k ≡ t = h.alone one k ck (sym lk.node ∙ from ∙ lt.node) in
-          one_like hs g t0 t a cg ct (subst (IsLike g) same lk) lt;
-    }
+    sym lt.right
+    ∙ joined t0 s0
+    (turns_over ks hs t s t0 s0 b a h ct cs (leaves_back t0 t (like_leaves t0 t lt)) (leaves_back s0 s (like_leaves s0 s ls)) (λ g cg from.
+    let (k, (ck, lk)) = both.back g cg (λ e. far (sym lt.node ∙ sym from ∙ e)) in
+    (k, (ck, leaves_back g k (like_leaves g k lk)))))
+    ∙ ls.left

@@ -1,13 +1,17 @@
 -- Two edges that are joined keep a drawing one whose rings have one face each.
-use Rattle.std.proofs.Common.{◌≡◌, ℕ, refl, sym, inl, inr, ◌⊎◌, ⊎_elim, ◌==◌, eq-eqb, List, [], ◌∷◌, ◌++◌}
+use Rattle.std.proofs.Common.{◌≡◌, ℕ, refl, sym, inl, inr, ◌⊎◌, ⊎_elim, ◌==◌, eq-eqb, List, [], ◌∷◌, ◌++◌, Bool, true, false, Some}
 use Rattle.std.specs.List.{Contains}
-use Rattle.std.proofs.lemmas.Bool.{or_left, or_right}
+use Rattle.std.proofs.lemmas.Bool.{eqb-false, or_left, or_right}
 use Rattle.std.proofs.lemmas.List.Elements.{Contains-push, Contains-append_left}
 use Rattle.topo_base.specs.declared.rows.Counters.{Counters}
 use Rattle.topo_base.specs.declared.rows.RelationRow.{RelationRow}
-use Rattle.drawing.specs.Drawing.{Drawing, Edge, edge_id_of}
-use Rattle.drawing.specs.HealEdges.{joined_edge}
+use Rattle.drawing.specs.Drawing.{Drawing, Edge, edge_id_of, has_only, is_end_of}
+use Rattle.drawing.specs.HealEdges.{joined_edge, common_nodes, healed_node, is_closed, is_nothing}
 use Rattle.drawing.specs.Rows.{without_row, with_change}
+use Rattle.drawing.specs.IsoEdits.{is_in_feature}
+use Rattle.drawing.specs.Relations.{edge_type, node_type}
+use Rattle.drawing.specs.RemoveEdge.{have_same_features}
+use Rattle.drawing.proofs.Members.{contains-filtered, contains-found}
 use Rattle.edit_changes.specs.Evidence.{EdgesMayBeJoined}
 use Rattle.edit_changes.proofs.PlainHeals.{IsBeside}
 use Rattle.edit_changes.proofs.PlainHealing.{no_third, from_mod, from_new}
@@ -20,6 +24,36 @@ use Rattle.ring_laws.proofs.RingedDrawings.{AreRinged, IsBefore}
 use Rattle.ring_laws.proofs.Turning.{joined_of, rings_of}
 use Rattle.ring_laws.proofs.WithoutEdge.{kept_edge}
 use Rattle.ring_laws.proofs.Joint.{IsHealed}
+use Rattle.plane.proofs.ListTests.{contains_cases, contains_none}
+
+-- ---- edges that may be joined at a node
+-- a list with an element is not nothing
+something : (ns : List ℕ) (n : ℕ) → Contains ns n → is_nothing ns ≡ false
+something [] n c = absurd (contains_none n c)
+something (m ∷ ns) n c = refl
+
+-- two open edges that are healed at this node
+pub may_be_joined : (S : Drawing) (e f : Edge) (n : ℕ) → Contains S.edges e → Contains S.edges f → is_closed e ≡ false → is_closed f ≡ false → (e.edge_id == f.edge_id) ≡ false → healed_node S e f ≡ Some n
+    → have_same_features S edge_type e.edge_id f.edge_id ≡ true → is_in_feature S node_type n ≡ false → EdgesMayBeJoined S e f n
+may_be_joined S e f n ce cf e_open f_open apart healed alike unlisted =
+    let found = contains-found (λ m. has_only S m e.edge_id f.edge_id) n (common_nodes e f) healed in
+    let common = contains-filtered (λ m. is_end_of m f) n (e.end_node ∷ e.start_node ∷ []) found.0 in
+    record {
+      first_there = ce;
+      second_there = cf;
+      first_open = e_open;
+      second_open = f_open;
+      differ = eqb-false e.edge_id f.edge_id apart;
+      meet = something (common_nodes e f) n found.0;
+      node = healed;
+      on_first = ⊎_elim (λ (p : e.end_node ≡ n). inl (sym p))
+          (λ (c : Contains (e.start_node ∷ []) n). ⊎_elim (λ (p : e.start_node ≡ n). inr (sym p)) (λ (c : Contains [] n). absurd (contains_none n c)) (contains_cases n e.start_node [] c))
+          (contains_cases n e.end_node (e.start_node ∷ []) common.0);
+      on_second = common.1;
+      only = found.1;
+      alike = alike;
+      unlisted = unlisted;
+    }
 
 -- ---- the edges with the joined one
 joined_into : (S : Drawing) (n : ℕ) (e f : Edge) (id : ℕ) (fs : List Edge) → EdgesMayBeJoined S e f n → ((x : Edge) → Contains fs x → IsBeside S.edges e f n x ⊎ (joined_edge n e f id ≡ x))

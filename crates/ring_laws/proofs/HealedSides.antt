@@ -19,7 +19,7 @@ use Rattle.ring_laws.proofs.Alike.{alike_same, IsLike, like_self, joined_like}
 use Rattle.ring_laws.proofs.Known.{any_in, any_same, IsKnown, known_kept}
 use Rattle.ring_laws.proofs.KnownStays.{end_is}
 use Rattle.ring_laws.proofs.SplitSides.{half_there}
-use Rattle.ring_laws.proofs.Turning.{AreJoined, spread_of}
+use Rattle.ring_laws.proofs.Turning.{FacesAgree, spread_of}
 use Rattle.ring_laws.proofs.WithoutEdge.{leaves_end}
 use Rattle.ring_laws.proofs.Joint.{IsHealed, AreBoth, both_cases, first_there, second_there, Joint, make_joint, edge_cases, away_ends, joint_sides}
 
@@ -52,7 +52,7 @@ abbrev pub healed_with : Drawing → ℕ → List Edge → List RelationRow → 
 healed_with S n fs rows ids = record S { nodes = without_row node_id_of S.nodes n; edges = fs; relations = rows; next_ids = ids }
 
 pub healed_joined : (S : Drawing) (n : ℕ) (e f : Edge) (id : ℕ) (fs : List Edge) (rows : List RelationRow) (ids : Counters) → HasPlainLines S → IsHealed S n e f id fs → HasPlainLines (healed_with S n fs rows ids)
-    → AreJoined (half_edges S) → AreJoined (flat_map both_ways fs)
+    → FacesAgree (half_edges S) → FacesAgree (flat_map both_ways fs)
 healed_joined S n e f id fs rows ids good h more joined t s turns =
     joined_like (half_edges S) (flat_map both_ways fs) n (spread_of S good) (spread_of (healed_with S n fs rows ids) more) (record { found = found; back = back }) joined t s turns (not_there t turns.first)
   where

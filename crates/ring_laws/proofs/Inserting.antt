@@ -9,7 +9,7 @@ use Rattle.drawing.specs.Star.{leaving, farther_of}
 use Rattle.plane.proofs.Directions.{nearer_self, nearer_onward, nearer_cyclic}
 use Rattle.plane.proofs.ListTests.{contains_here, contains_there, contains_cases, contains_none}
 use Rattle.face_rings.proofs.Ranks.{by_bool}
-use Rattle.ring_laws.proofs.Turning.{AreSpread, apart_at, one_of_equals, Turns, AreJoined, turns_within}
+use Rattle.ring_laws.proofs.Turning.{AreSpread, apart_at, one_of_equals, Turns, FacesAgree, turns_within}
 
 -- ---- the last one clockwise from a direction
 pub record IsFarthest (r : Direction) (h : HalfEdge) (hs : List HalfEdge) (m : HalfEdge) : Type 0 where
@@ -203,7 +203,7 @@ last_before hs x t p a fresh h ct l =
     in_t : Contains (x ∷ hs) t
     in_t = contains_there t x hs ct
 
-pub joined_more : (hs : List HalfEdge) (x : HalfEdge) (f : ℕ) → Insertion hs x f → AreJoined hs → AreJoined (x ∷ hs)
+pub joined_more : (hs : List HalfEdge) (x : HalfEdge) (f : ℕ) → Insertion hs x f → FacesAgree hs → FacesAgree (x ∷ hs)
 joined_more hs x f i joined t s h =
     ⊎_elim
     (λ (p : x ≡ t). ⊎_elim (λ (q : x ≡ s). own p q) (λ (cs : Contains hs s). from_x p cs i.into) (contains_cases s x hs h.second))

@@ -18,7 +18,7 @@ use Rattle.face_rings.proofs.HalvesApart.{half_of, forward_there, backward_there
 use Rattle.face_rings.proofs.Ranks.{by_bool}
 use Rattle.ring_laws.proofs.KnownStays.{end_is}
 use Rattle.ring_laws.proofs.SplitSides.{first_of_some, from_end}
-use Rattle.ring_laws.proofs.Turning.{Turns, AreJoined}
+use Rattle.ring_laws.proofs.Turning.{Turns, FacesAgree}
 use Rattle.ring_laws.proofs.WithoutEdge.{leaves_end}
 
 -- ---- the directions of a joined line
@@ -234,7 +234,7 @@ away_ends x h (inl b) far e = far (ap (λ (z : HalfEdge). z.from_node) b.0 ∙ e
 away_ends x h (inr b) far e = far (ap (λ (z : HalfEdge). z.to_node) b.0 ∙ sym e ∙ ap (λ (z : HalfEdge). z.from_node) (sym b.0))
 
 -- ---- the faces beside the two edges agree
-pub joint_sides : (S : Drawing) (n : ℕ) (e f : Edge) (id : ℕ) (fs : List Edge) → HasPlainLines S → AreJoined (half_edges S) → IsHealed S n e f id fs → (j : Joint S n e f id (joined_edge n e f id))
+pub joint_sides : (S : Drawing) (n : ℕ) (e f : Edge) (id : ℕ) (fs : List Edge) → HasPlainLines S → FacesAgree (half_edges S) → IsHealed S n e f id fs → (j : Joint S n e f id (joined_edge n e f id))
     → (j.up.on_left ≡ j.on.on_left) × (j.on.on_right ≡ j.up.on_right)
 joint_sides S n e f id fs good joined h j = (
   joined (twin j.up) j.on (pair_turns (half_edges S) (twin j.up) j.on n up_back on_there j.up_to j.on_from two_edges at_node),

@@ -23,7 +23,7 @@ use Rattle.ring_laws.proofs.DividedSides.{dart_faceless}
 use Rattle.ring_laws.proofs.Known.{any_in, any_out, any_more, any_behind, any_filtered, any_same, IsKnown, isolated_if, not_isolated, none_ends}
 use Rattle.ring_laws.proofs.KnownStays.{is_listed}
 use Rattle.ring_laws.proofs.Removing.{joined_without}
-use Rattle.ring_laws.proofs.Turning.{AreJoined, next_turns, lefts_stay}
+use Rattle.ring_laws.proofs.Turning.{FacesAgree, next_turns, lefts_stay}
 use Rattle.ring_laws.proofs.WithoutEdge.{kept_edge, was_edge}
 
 -- the drawing without the edge, and that with the faces that are one
@@ -54,7 +54,7 @@ renamed_half gone kept edges h c =
     r.way
 
 pub merged_rings : (S : Drawing) (e : Edge) (gone : List ℕ) (kept : ℕ) (faces : List ℕ) (ids : Counters) → HasPlainLines S → HasPlainLines (lessened S e) → Contains S.edges e → renamed gone kept e.left_face ≡ renamed gone kept e.right_face
-    → AreJoined (half_edges S) → HasPlainLines (merged_with S e gone kept faces ids) → rings_have_one_face (merged_with S e gone kept faces ids) ≡ true
+    → FacesAgree (half_edges S) → HasPlainLines (merged_with S e gone kept faces ids) → rings_have_one_face (merged_with S e gone kept faces ids) ≡ true
 merged_rings S e gone kept faces ids good less ce same joined more = lefts_stay (merged_with S e gone kept faces ids) each
   where
     each : (h : HalfEdge) → Contains (half_edges (merged_with S e gone kept faces ids)) h → h.on_left ≡ (next_of (half_edges (merged_with S e gone kept faces ids)) h).on_left

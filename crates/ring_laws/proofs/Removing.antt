@@ -14,14 +14,14 @@ use Rattle.face_rings.proofs.HalfLines.{HasPlainLines}
 use Rattle.face_rings.proofs.HalvesApart.{half_of, forward_there, backward_there, one_edge}
 use Rattle.face_rings.proofs.Ranks.{by_bool}
 use Rattle.ring_laws.proofs.Inserting.{round_about, not_both, not_fresh}
-use Rattle.ring_laws.proofs.Turning.{AreSpread, spread_of, spread_within, apart_at, Turns, AreJoined, turns_within}
+use Rattle.ring_laws.proofs.Turning.{AreSpread, spread_of, spread_within, apart_at, Turns, FacesAgree, turns_within}
 use Rattle.ring_laws.proofs.WithoutEdge.{kept_edge, was_edge}
 
 -- the faces agree where some count as one
 abbrev pub AreJoinedBy : (ℕ → ℕ) → List HalfEdge → Type 0
 AreJoinedBy r hs = (t s : HalfEdge) → Turns hs t s → r t.on_right ≡ r s.on_left
 
-pub joined_by : (r : ℕ → ℕ) (ks ls : List HalfEdge) → ((k : HalfEdge) → Contains ks k → Contains ls k) → ((k : HalfEdge) → Contains ls k → Contains ks k) → AreJoined ks → AreJoinedBy r ls
+pub joined_by : (r : ℕ → ℕ) (ks ls : List HalfEdge) → ((k : HalfEdge) → Contains ks k → Contains ls k) → ((k : HalfEdge) → Contains ls k → Contains ks k) → FacesAgree ks → AreJoinedBy r ls
 joined_by r ks ls into back joined t s h = ap r (joined t s (turns_within ks ls t s into (back t h.first) (back s h.second) h))
 
 pub joined_fewer : (r : ℕ → ℕ) (hs : List HalfEdge) (x : HalfEdge) → AreSpread (x ∷ hs) → (Contains hs x → ⊥) → r x.on_left ≡ r x.on_right → AreJoinedBy r (x ∷ hs) → AreJoinedBy r hs
@@ -174,7 +174,7 @@ gone_half edges e h id c =
     (was_edge edges e r.edge r.there).1 (same ∙ id)
 
 -- they stay joined where the two sides of the edge count as one face
-pub joined_without : (S : Drawing) (e : Edge) (r : ℕ → ℕ) → HasPlainLines S → Contains S.edges e → r e.left_face ≡ r e.right_face → AreJoined (half_edges S) → AreJoinedBy r (flat_map both_ways (without_row edge_id_of S.edges e.edge_id))
+pub joined_without : (S : Drawing) (e : Edge) (r : ℕ → ℕ) → HasPlainLines S → Contains S.edges e → r e.left_face ≡ r e.right_face → FacesAgree (half_edges S) → AreJoinedBy r (flat_map both_ways (without_row edge_id_of S.edges e.edge_id))
 joined_without S e r good ce same joined =
     let d = forward_of e in
     let g = backward_of e in

@@ -19,7 +19,7 @@ use Rattle.face_rings.specs.FaceBorder.{beside, border_dart, face_border, HasRin
 use Rattle.face_rings.proofs.FaceBorders.{has_plain_lines, half_by_dart, in_beside, from_beside, has_half, border_linked, ring_is}
 use Rattle.face_rings.proofs.HalfLines.{HasPlainLines}
 use Rattle.face_rings.proofs.NextApart.{next_there}
-use Rattle.face_rings.proofs.Orbits.{Has, IsLinked, linked_of, next_found}
+use Rattle.face_rings.proofs.Orbits.{Has, IsLinkedBorder, linked_of, next_found}
 use Rattle.face_rings.proofs.Ranks.{Decides-same_dart, rank, before_out, before_in, rank_same}
 use Rattle.face_rings.proofs.Reaching.{Reaches, reaches_on, reaches_back, ring_closed, in_ring, from_ring}
 use Rattle.ring_laws.proofs.Turning.{same_test, left_stays}
@@ -40,7 +40,7 @@ step_on T f h s = record {
 in_border : (T : Drawing) (f : ℕ) (h : HalfEdge) → IsStep T f h → Has (face_border (half_edges T) f) (dart_of h)
 in_border T f h s = has_half T f h (in_beside T f h s.there s.left)
 
-links : (T : Drawing) (f : ℕ) (h : HalfEdge) → IsStep T f h → IsLinked (face_border (half_edges T) f)
+links : (T : Drawing) (f : ℕ) (h : HalfEdge) → IsStep T f h → IsLinkedBorder (face_border (half_edges T) f)
 links T f h s = linked_of (face_border (half_edges T) f) (border_linked T f s.rings)
 
 pub next_half : (T : Drawing) (f : ℕ) (h : HalfEdge) → IsStep T f h → next_dart (face_border (half_edges T) f) (dart_of h) ≡ dart_of (next_of (half_edges T) h)
@@ -57,7 +57,7 @@ backward : (T : Drawing) (f : ℕ) (h : HalfEdge) → IsStep T f h → Reaches (
 backward T f h s = reaches_back (face_border (half_edges T) f) (dart_of h) (dart_of (next_of (half_edges T) h)) (links T f h s) (in_border T f h s) (onward T f h s)
 
 -- ---- a ring has both or neither
-contains_darts : (ring : List HalfEdge) (h : HalfEdge) → has_dart (map dart_of ring) (dart_of h) ≡ contains_half_edge ring h
+pub contains_darts : (ring : List HalfEdge) (h : HalfEdge) → has_dart (map dart_of ring) (dart_of h) ≡ contains_half_edge ring h
 contains_darts [] h = refl
 contains_darts (k ∷ ring) h = ap (λ t. same_half_edge h k || t) (contains_darts ring h)
 
@@ -123,7 +123,7 @@ least_of_some h ring =
       vertex = refl;
     }
 
-walk_begins : (hs : List HalfEdge) (first h : HalfEdge) (n : ℕ) → (rest : List HalfEdge) × (walk hs first n h ≡ h ∷ rest)
+pub walk_begins : (hs : List HalfEdge) (first h : HalfEdge) (n : ℕ) → (rest : List HalfEdge) × (walk hs first n h ≡ h ∷ rest)
 walk_begins hs first h zero = ([], refl)
 walk_begins hs first h (suc n) = by_test (same_half_edge (next_of hs h) first)
   where

@@ -32,7 +32,7 @@ use Rattle.ring_laws.proofs.Alike.{Alike, alike_one, alike_same, one_way, other_
 use Rattle.ring_laws.proofs.Known.{any_in, any_same, IsKnown, not_isolated, none_ends, none_leaves, known_kept}
 use Rattle.ring_laws.proofs.KnownStays.{end_is, new_isolated}
 pub use Rattle.ring_laws.proofs.WithoutEdge.{half_there}
-use Rattle.ring_laws.proofs.Turning.{AreJoined, spread_of}
+use Rattle.ring_laws.proofs.Turning.{FacesAgree, spread_of}
 
 -- ---- the directions of the parts
 on_parts : (p a b : Point) → on_segment p (segment a b) ≡ true → (area a b p ≡ pos 0) × IsBetween a.x p.x b.x × IsBetween a.y p.y b.y
@@ -178,7 +178,7 @@ abbrev pub split_with : Drawing → Point → List Edge → List RelationRow →
 split_with S p fs rows ids = record S { nodes = S.nodes ++ new_node S.next_ids.node p ∷ []; edges = fs; relations = rows; next_ids = ids }
 
 pub split_joined : (S : Drawing) (e : Edge) (p : Point) (id id' : ℕ) (fs : List Edge) (rows : List RelationRow) (ids : Counters) → IsPlainInOrder S → HasPlainLines S → IsSplitInto S e p id id' fs → HasPlainLines (split_with S p fs rows ids)
-    → AreJoined (half_edges S) → AreJoined (flat_map both_ways fs)
+    → FacesAgree (half_edges S) → FacesAgree (flat_map both_ways fs)
 split_joined S e p id id' fs rows ids ordered good split more joined t s h =
     ⊎_elim
     (λ (at : t.from_node ≡ S.next_ids.node). here (at_new S e p id id' fs ordered good split t h.first at) (at_new S e p id id' fs ordered good split s h.second (h.one_node ∙ at)))

@@ -77,8 +77,8 @@ pub record Turns (hs : List HalfEdge) (t s : HalfEdge) : Type 0 where
   pub alone : s ≡ t → (k : HalfEdge) → Contains hs k → k.from_node ≡ t.from_node → k ≡ t
 
 -- the face on the right of each is that on the left of the next
-abbrev pub AreJoined : List HalfEdge → Type 0
-AreJoined hs = (t s : HalfEdge) → Turns hs t s → t.on_right ≡ s.on_left
+abbrev pub FacesAgree : List HalfEdge → Type 0
+FacesAgree hs = (t s : HalfEdge) → Turns hs t s → t.on_right ≡ s.on_left
 
 -- both depend on what the list contains alone
 pub turns_within : (ks ls : List HalfEdge) (t s : HalfEdge) → ((k : HalfEdge) → Contains ks k → Contains ls k) → Contains ks t → Contains ks s → Turns ls t s → Turns ks t s
@@ -90,7 +90,7 @@ turns_within ks ls t s sub ct cs h = record {
   alone = λ e k c from. h.alone e k (sub k c) from;
 }
 
-pub joined_same : (ks ls : List HalfEdge) → ((k : HalfEdge) → Contains ks k → Contains ls k) → ((k : HalfEdge) → Contains ls k → Contains ks k) → AreJoined ks → AreJoined ls
+pub joined_same : (ks ls : List HalfEdge) → ((k : HalfEdge) → Contains ks k → Contains ls k) → ((k : HalfEdge) → Contains ls k → Contains ks k) → FacesAgree ks → FacesAgree ls
 joined_same ks ls into back joined t s h = joined t s (turns_within ks ls t s into (back t h.first) (back s h.second) h)
 
 -- at most one is next
@@ -160,8 +160,8 @@ lefts_stay S each =
     (Decides-all test (λ x. test x ≡ true) (λ x. (λ t. t, λ t. t)) (half_edges S)).1
     (all_from (λ (x : HalfEdge). test x ≡ true) (half_edges S) (λ h c. eq-eqb h.on_left (next_of (half_edges S) h).on_left (each h c)))
 
-pub joined_of : (S : Drawing) → HasPlainLines S → rings_have_one_face S ≡ true → AreJoined (half_edges S)
+pub joined_of : (S : Drawing) → HasPlainLines S → rings_have_one_face S ≡ true → FacesAgree (half_edges S)
 joined_of S good one t s h = left_stays S (twin t) one (twin_there S.edges t h.first) ∙ ap (λ (x : HalfEdge). x.on_left) (turns_next S t s good h)
 
-pub rings_of : (S : Drawing) → HasPlainLines S → AreJoined (half_edges S) → rings_have_one_face S ≡ true
+pub rings_of : (S : Drawing) → HasPlainLines S → FacesAgree (half_edges S) → rings_have_one_face S ≡ true
 rings_of S good joined = lefts_stay S (λ h c. joined (twin h) (next_of (half_edges S) h) (next_turns S h good c))

@@ -19,7 +19,7 @@ use Rattle.plane.proofs.ListTests.{contains_here, contains_there, contains_cases
 use Rattle.drawing.proofs.Members.{contains-filter, contains-filtered, ids_within}
 use Rattle.face_rings.proofs.HalfLines.{HasPlainLines}
 use Rattle.face_rings.proofs.HalvesApart.{half_of, forward_there, backward_there}
-use Rattle.ring_laws.proofs.Turning.{AreJoined, spread_of, spread_within, joined_same, joined_of, rings_of}
+use Rattle.ring_laws.proofs.Turning.{FacesAgree, spread_of, spread_within, joined_same, joined_of, rings_of}
 use Rattle.ring_laws.proofs.Inserting.{NoneLeaves, ComesInto, comes_after, IsFarthest, farthest_is, joined_more}
 
 -- ---- the face of a line at a node
@@ -95,7 +95,7 @@ from_pushed edges e h c =
     (contains_cases h (backward_of e) (forward_of e ∷ flat_map both_ways edges) c)
 
 -- the edge's own are no others
-no_old : (S : Drawing) (h : HalfEdge) → HasPlainLines S → h.edge_id ≡ S.next_ids.edge → Contains (half_edges S) h → ⊥
+pub no_old : (S : Drawing) (h : HalfEdge) → HasPlainLines S → h.edge_id ≡ S.next_ids.edge → Contains (half_edges S) h → ⊥
 no_old S h good id c =
     let r = half_of S.edges h c in
     let below = (ids_within edge_id_of 0 S.next_ids.edge S.edges r.edge good.edge_ids r.there).1 in
@@ -110,7 +110,7 @@ pub record IsAdded (S : Drawing) (a b : NodeRow) (line : List Point) (f : ℕ) :
   pub at_start : ComesInto (half_edges S) (forward_of (coming S a b line f)) f
   pub at_end : ComesInto (half_edges S) (backward_of (coming S a b line f)) f
 
-pub with_edge_joined : (S : Drawing) (a b : NodeRow) (line : List Point) (f : ℕ) → IsAdded S a b line f → AreJoined (half_edges (with_edge S a b line f))
+pub with_edge_joined : (S : Drawing) (a b : NodeRow) (line : List Point) (f : ℕ) → IsAdded S a b line f → FacesAgree (half_edges (with_edge S a b line f))
 with_edge_joined S a b line f h =
     let e = coming S a b line f in
     let d = forward_of e in

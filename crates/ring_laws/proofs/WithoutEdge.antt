@@ -12,10 +12,10 @@ use Rattle.edit_changes.proofs.PlainHealing.{left_over, no_third}
 use Rattle.face_rings.proofs.HalfLines.{HasPlainLines}
 use Rattle.face_rings.proofs.HalvesApart.{IsHalf, half_of, forward_there, backward_there, one_edge}
 use Rattle.face_rings.proofs.Ranks.{by_bool}
-use Rattle.ring_laws.proofs.Turning.{AreJoined}
+use Rattle.ring_laws.proofs.Turning.{FacesAgree}
 
 -- fewer half-edges stay joined where none is missed about the nodes of the others
-pub joined_less : (hs ks : List HalfEdge) → ((k : HalfEdge) → Contains ks k → Contains hs k) → ((k t : HalfEdge) → Contains hs k → Contains ks t → k.from_node ≡ t.from_node → Contains ks k) → AreJoined hs → AreJoined ks
+pub joined_less : (hs ks : List HalfEdge) → ((k : HalfEdge) → Contains ks k → Contains hs k) → ((k t : HalfEdge) → Contains hs k → Contains ks t → k.from_node ≡ t.from_node → Contains ks k) → FacesAgree hs → FacesAgree ks
 joined_less hs ks into kept joined t s h = joined t s (record {
   first = into t h.first;
   second = into s h.second;
@@ -63,7 +63,7 @@ pub half_there : (edges : List Edge) (k : HalfEdge) (x : Edge) → Contains edge
 half_there edges k x c way =
     ⊎_elim (λ (p : forward_of x ≡ k). subst (Contains (flat_map both_ways edges)) p (forward_there edges x c)) (λ (p : backward_of x ≡ k). subst (Contains (flat_map both_ways edges)) p (backward_there edges x c)) way
 
-pub without_edge_joined : (S : Drawing) (e : Edge) → HasPlainLines S → Contains S.edges e → IsAlone S e → AreJoined (half_edges S) → AreJoined (flat_map both_ways (without_row edge_id_of S.edges e.edge_id))
+pub without_edge_joined : (S : Drawing) (e : Edge) → HasPlainLines S → Contains S.edges e → IsAlone S e → FacesAgree (half_edges S) → FacesAgree (flat_map both_ways (without_row edge_id_of S.edges e.edge_id))
 without_edge_joined S e good ce alone joined = joined_less (half_edges S) (flat_map both_ways (without_row edge_id_of S.edges e.edge_id)) into kept joined
   where
     into : (k : HalfEdge) → Contains (flat_map both_ways (without_row edge_id_of S.edges e.edge_id)) k → Contains (half_edges S) k

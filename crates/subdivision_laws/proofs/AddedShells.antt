@@ -7,7 +7,7 @@ use Rattle.drawing.specs.HalfEdge.{forward_of, backward_of}
 use Rattle.drawing.specs.Ring.{contains_half_edge}
 use Rattle.edit_changes.specs.Evidence.{left_ring}
 use Rattle.plane.specs.Crossings.{back}
-use Rattle.parity_laws.specs.Shelling.{IsRingOf, OneShell, NoShell}
+use Rattle.parity_laws.specs.Shelling.{IsRingLabel, OneShell, NoShell}
 use Rattle.face_laws.specs.Walked.{steps_of, is_of}
 use Rattle.face_laws.specs.Covered.{face_of}
 use Rattle.face_laws.proofs.PlainSteps.{step_back}
@@ -29,7 +29,7 @@ open_line S a b p q vs f h o = record {
   comes = line_comes S a b p q vs f h;
   faces = face_comes S a b p q vs f h;
   p = is_of (left_ring S a b (p ∷ q ∷ vs) f);
-  ring = subst (λ T. IsRingOf T (is_of (left_ring S a b (p ∷ q ∷ vs) f))) (steps_added S a b (p ∷ q ∷ vs) f)
+  ring = subst (λ T. IsRingLabel T (is_of (left_ring S a b (p ∷ q ∷ vs) f))) (steps_added S a b (p ∷ q ∷ vs) f)
       (ring_of_label (added S a b p q vs f) (forward_of (edge_of S a b p q vs f)) h.after.rings (forward_in S a b (p ∷ q ∷ vs) f));
   forth = own_steps (added S a b p q vs f) (forward_of (edge_of S a b p q vs f)) (first_of p q) (inl refl);
   walked =

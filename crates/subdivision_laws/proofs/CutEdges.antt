@@ -29,7 +29,7 @@ use Rattle.parity_laws.specs.Cuts.{Inner, cut}
 use Rattle.parity_laws.specs.Rings.{In, Within, Plain, of_face}
 use Rattle.parity_laws.proofs.CutList.{IsCutTo, is_cut, sided_split, above_split, one_shell_split, no_shell_split}
 use Rattle.parity_laws.proofs.Tests.{exact_is, exact_self}
-use Rattle.parity_laws.proofs.Whole.{IsCut, exact, whole, begin_of, end_of, begin_there, end_there, part_is, other_there, no_vertex, Wholes, wholes_of}
+use Rattle.parity_laws.proofs.Whole.{IsStepCut, exact, whole, begin_of, end_of, begin_there, end_there, part_is, other_there, no_vertex, Wholes, wholes_of}
 use Rattle.face_laws.specs.Walked.{steps_along, steps_of}
 use Rattle.face_laws.specs.Covered.{face_of}
 use Rattle.face_laws.proofs.FaceOnLeft.{left_is}
@@ -281,7 +281,7 @@ inside_segment S e p id id' fs rows ids rings split more d v = record {
     }
 
     -- ---- the faces
-    old_cut : IsCut (steps_of S) d p
+    old_cut : IsStepCut (steps_of S) d p
     old_cut = is_cut (steps_of S) d p (steps_of T) is_cut_to
 
     wholes : Wholes d p

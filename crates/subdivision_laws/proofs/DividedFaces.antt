@@ -22,7 +22,7 @@ use Rattle.ring_laws.specs.Parts.{IsDividedBy}
 use Rattle.ring_laws.specs.Ringed.{IsRinged}
 use Rattle.parity_laws.specs.Steps.{above, left}
 use Rattle.parity_laws.specs.Rings.{In, Drawn, those}
-use Rattle.parity_laws.specs.Shelling.{IsRingOf}
+use Rattle.parity_laws.specs.Shelling.{IsRingLabel}
 use Rattle.parity_laws.proofs.BesideParts.{parts_have_once, outer_parts_have_once, ring_in_first, ring_in_second}
 use Rattle.parity_laws.proofs.Dividing.{Divides, parted, parted_away, parted_first, parted_second, IsOuterPart, first_part, second_part}
 use Rattle.parity_laws.proofs.DividedShells.{NoOtherShell, RestOfFace}
@@ -232,7 +232,7 @@ face_parted T e d faces new h good t i = of_half (half_with T t i)
             in_own : Contains (ring_of (half_edges T) k) k
             in_own = in_own_ring T k
 
-            ring : IsRingOf (steps_of T) (is_of (ring_of (half_edges T) k))
+            ring : IsRingLabel (steps_of T) (is_of (ring_of (half_edges T) k))
             ring = ring_of_label T k h.before.rings c
 
             off : is_of (ring_of (half_edges T) k) (start e) ≡ false

@@ -36,7 +36,7 @@ use Rattle.ring_laws.proofs.EdgesJoin.{joined_anew, joined_changed}
 use Rattle.ring_laws.proofs.RingedDrawings.{before_of}
 
 -- ---- each change
-line_long : (line : List Point) → is_line_short line ≡ true → 2 ≤ length line
+pub line_long : (line : List Point) → is_line_short line ≡ true → 2 ≤ length line
 line_long line h = leb-true 2 (length line) (and_parts (nat_le 2 (length line)) (nat_le (length line) 4096) h).0
 
 -- nodes, edges and faces are as they were

@@ -9,6 +9,6 @@ pub record Placed (R : Type 0) : Type 0 where
   pub room : ℕ
 
 -- each row is at the place of its id, and the next id is a number of 32 bits
-pub record IsPlaced {R : Type 0} (id : R → ℕ) (places : List (Option R)) : Type 0 where
+pub record ArePlaces {R : Type 0} (id : R → ℕ) (places : List (Option R)) : Type 0 where
   pub in_place : IsInPlace id 1 places
   pub small : length places + 1 < 2 ^ 32

@@ -19,7 +19,7 @@ pub struct Places<R: Row + Drop> {
 impl<R: Row + Drop> Model for Places<R> {
     ghost use Rattle.std.specs.Prelude.{◌+◌, ◌-◌, length, vec_len, vec_capacity};
     ghost use Rattle.drawing.specs.Places.{rows_of};
-    ghost use Rattle.topo_tables.specs.Placed.{Placed, IsPlaced};
+    ghost use Rattle.topo_tables.specs.Placed.{Placed, ArePlaces};
 
     ghost Value = { Placed R };
 
@@ -29,7 +29,7 @@ impl<R: Row + Drop> Model for Places<R> {
       room = vec_capacity p.slots - vec_len p.slots;
     } };
 
-    ghost invariant = { λ p. IsPlaced R.number p.slots.items };
+    ghost invariant = { λ p. ArePlaces R.number p.slots.items };
 }
 
 /// What stands at a place.

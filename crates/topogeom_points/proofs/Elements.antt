@@ -1,9 +1,10 @@
 -- Which elements a feature may list, on tables.
-use Rattle.std.proofs.Common.{◌≡◌, ◌∙◌, ℕ, zero, suc, ◌==◌, ◌+◌, ◌<◌, Bool, true, false, not, ◌||◌, List, [], ◌∷◌, ◌++◌, take, drop, length, get_or, add-one, drop-cons, arith, refl, sym, ap, Option, Some, None, Bor}
+use Rattle.std.proofs.Common.{◌≡◌, ◌∙◌, ℕ, zero, suc, ◌==◌, ◌+◌, ◌<◌, true, false, not, ◌||◌, List, [], ◌∷◌, ◌++◌, take, drop, length, get_or, add-one, drop-cons, arith, refl, sym, ap, Option, Some, None, Bor}
 use Rattle.std.specs.Prelude.{is_some}
 use Rattle.std.specs.List.{list_any}
 use Rattle.std.specs.Option.{option_copied}
 use Rattle.std.proofs.lemmas.List.Folds.{list_any-append}
+use Rattle.std.proofs.Math.Bool.{or_comm}
 use Rattle.topo_base.specs.declared.edit.Pair.{Pair}
 use Rattle.topo_base.specs.declared.rows.LayerRow.{LayerRow}
 use Rattle.topo_base.specs.declared.rule.Rule.{Rule}
@@ -15,12 +16,9 @@ use Rattle.drawing.specs.Tables.{Tables, drawn, drawn_edge}
 use Rattle.drawing.specs.Writes.{edge_row_id}
 use Rattle.drawing.proofs.RowLemmas.{is_some-row_at}
 use Rattle.drawing.proofs.TableLemmas.{list_any-map}
+use Rattle.topo_tables.proofs.PlaceLemmas.{is_some-copied}
 
 -- ---- a row is there
-is_some-copied : {R : Type 0} (found : Option (Bor R)) → is_some found ≡ is_some (option_copied found)
-is_some-copied None = refl
-is_some-copied (Some row) = refl
-
 pub has_found : {R : Type 0} (id : R → ℕ) (rows : List R) (n : ℕ) (found : Option (Bor R)) → option_copied found ≡ row_at id rows n → is_some found ≡ has_row id rows n
 has_found id rows n found e = is_some-copied found ∙ ap is_some e ∙ is_some-row_at id rows n
 
@@ -32,12 +30,6 @@ has_edge_is t n = sym (list_any-map (λ e. edge_id_of e == n) drawn_edge t.edges
 or_same : (a b c : Option Rule) → or_else a (or_else b c) ≡ or_else (or_else a b) c
 or_same None b c = refl
 or_same (Some rule) b c = refl
-
-turn : (a b : Bool) → (a || b) ≡ (b || a)
-turn true true = refl
-turn true false = refl
-turn false true = refl
-turn false false = refl
 
 -- which stand before matters only by what they are
 earlier_same : (S : Drawing) (layer : LayerRow) (a b xs : List Pair) → ((x : Pair) → list_any (same_pair x) a ≡ list_any (same_pair x) b) → elements_rule S layer a xs ≡ elements_rule S layer b xs
@@ -61,8 +53,8 @@ front_more (y ∷ xs) (suc i) x h is = ap (λ l. y ∷ l) (front_more xs i x (om
 
 same_behind : (xs : List Pair) (i : ℕ) (x : Pair) → i < length xs → x ≡ get_or xs i x → (y : Pair) → list_any (same_pair y) (x ∷ take i xs) ≡ list_any (same_pair y) (take (i + 1) xs)
 same_behind xs i x h is y =
-    turn (same_pair y x) (list_any (same_pair y) (take i xs))
-    ∙ ap (λ c. list_any (same_pair y) (take i xs) || c) (turn false (same_pair y x))
+    or_comm (same_pair y x) (list_any (same_pair y) (take i xs))
+    ∙ ap (λ c. list_any (same_pair y) (take i xs) || c) (or_comm false (same_pair y x))
     ∙ sym (list_any-append (same_pair y) (take i xs) (x ∷ []))
     ∙ ap (list_any (same_pair y)) (sym (front_more xs i x h is) ∙ rw add-one refl)
 

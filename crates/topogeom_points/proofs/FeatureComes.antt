@@ -31,6 +31,7 @@ use Rattle.read_set.specs.Edited.{Follows}
 use Rattle.read_set.specs.declared.edited.Edited.{Edited}
 use Rattle.read_set.specs.Ready.{IsReady}
 use Rattle.topogeom_points.specs.Rows.{row_write, rows_come}
+use Rattle.topogeom_points.proofs.Levels.{lt_of}
 
 -- ---- the rows of a feature of one layer
 agree : (t l : ℕ) (x y : Pair) → same_row (row_for t l y) (row_for t l x) ≡ true → row_for t l y ≡ row_for t l x
@@ -62,9 +63,6 @@ puts_behind t l [] rows h = sym (append-nil rows)
 puts_behind t l (x ∷ xs) rows h = ap (insert_row (row_for t l x)) (puts_behind t l xs rows h) ∙ put_behind t l x rows (ordered (map (row_for t l) xs)) h
 
 -- ---- a row is of a feature that is there, whose id is below the next one
-lt_of : (a b : ℕ) → nat_lt a b ≡ true → a < b
-lt_of a b h = grind (arith, nat_tests)
-
 of_lt : (a b : ℕ) → a < b → nat_lt a b ≡ true
 of_lt a b h = grind (arith, nat_tests)
 

@@ -15,7 +15,7 @@ use Rattle.relation_rows.proofs.KnownFeatures.{references_parts}
 le_of : (a b : ℕ) → nat_le a b ≡ true → a ≤ b
 le_of a b h = grind (arith, nat_tests)
 
-lt_of : (a b : ℕ) → nat_lt a b ≡ true → a < b
+pub lt_of : (a b : ℕ) → nat_lt a b ≡ true → a < b
 lt_of a b h = grind (arith, nat_tests)
 
 ascend_count : (low next : ℕ) (ids : List ℕ) → ascend_between low next ids ≡ true → low ≤ next → length ids + low ≤ next

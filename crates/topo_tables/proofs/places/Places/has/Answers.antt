@@ -1,12 +1,8 @@
-use Rattle.std.proofs.Common.{◌≡◌, ◌∙◌, Bor, ap, Option, Some, None, refl}
+use Rattle.std.proofs.Common.{◌∙◌, ap}
 use Rattle.std.specs.Prelude.{is_some}
-use Rattle.std.specs.Option.{option_copied}
 use Rattle.drawing.proofs.RowLemmas.{is_some-row_at}
 use Rattle.topo_tables.proofs.places.Places.has.Goals as goal
-
-is_some-copied : {R : Type 0} (found : Option (Bor R)) → is_some found ≡ is_some (option_copied found)
-is_some-copied None = refl
-is_some-copied (Some row) = refl
+use Rattle.topo_tables.proofs.PlaceLemmas.{is_some-copied}
 
 pub returns : goal.returns
 returns g c =
