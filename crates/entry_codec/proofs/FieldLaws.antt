@@ -1,5 +1,5 @@
 -- The laws of each field of an edit.
-use Rattle.std.proofs.Common.{◌≡◌, ◌⊎◌, inl, inr, ℕ, zero, suc, ◌-◌, ◌<◌, ◌^◌, ℤ, pos, negsuc, Bool, true, false, ◌&&◌, cond, ◌==◌, IsTrue, List, [], ◌∷◌, ◌++◌, length, take, drop, flat_map, Option, Some, None, option_and_then, nat_le, FitsSigned, refl, sym, ap, subst, ◌∙◌, append_assoc, arith, leb-true, le-leb, lt-ltb, ltb-true}
+use Rattle.std.proofs.Common.{◌≡◌, ◌⊎◌, inl, inr, ℕ, zero, suc, ◌-◌, ◌^◌, ℤ, pos, negsuc, Bool, true, false, ◌&&◌, cond, ◌==◌, IsTrue, List, [], ◌∷◌, ◌++◌, length, take, drop, flat_map, Option, Some, None, option_and_then, nat_le, FitsSigned, refl, sym, ap, subst, ◌∙◌, append_assoc, arith, leb-true, le-leb, lt-ltb, ltb-true}
 use Rattle.std.specs.List.{list_all}
 use Rattle.std.specs.Int.{w64, to_be_bytes, cast_unsigned}
 use Rattle.std.proofs.lemmas.Bool.{and_parts, and_from, eqb-true}
@@ -14,6 +14,7 @@ use Rattle.topo_base.specs.declared.kind.Kind.TheVariants.{Puntal, Lineal, Areal
 use Rattle.topo_base.specs.declared.edit.Pair.{Pair}
 use Rattle.drawing.specs.InRange.{is_id, is_option_id, is_coordinate, is_grid_point, is_pair}
 use Rattle.history_model.specs.Spelling.{number_bytes, point_bytes, option_bytes, line_bytes, pair_bytes, pairs_bytes, name_bytes}
+use Rattle.history_model.proofs.Fronts.{wide_number}
 use Rattle.entry_codec.specs.Reading.{Reads, tested, where_good, made, both, many, wide_at, number_at, option_at, point_of, point_at, counted, is_count_of_line, is_count_of_pairs, line_at, pair_of, pair_at, pairs_at, name_at, kind_at}
 use Rattle.entry_codec.proofs.Loops.{then_read, found, same_found, many_length}
 use Rattle.entry_codec.proofs.Grammar.{IsField, both_field, where_field, made_takes, made_again, many_takes, many_again, is_wide, number_field, wide_field}
@@ -70,10 +71,6 @@ point_takes bytes p rest e =
 fits_wide : (z : ℤ) → IsTrue (is_coordinate z) → FitsSigned w64 z
 fits_wide (pos n) h = let few = leb-true n (2 ^ 40) h in omega arith
 fits_wide (negsuc n) h = let few = leb-true n (2 ^ 40 - 1) (and_parts _ true h).0 in omega arith
-
-wide_number : (z : ℤ) → IsTrue (is_coordinate z) → cast_unsigned w64 z < 2 ^ 64
-wide_number (pos n) h = let few = leb-true n (2 ^ 40) h in omega arith
-wide_number (negsuc n) h = omega arith
 
 point_again : (p : Point) (rest : List ℕ) → IsTrue (is_grid_point p) → point_at (point_bytes p ++ rest) ≡ Some (p, rest)
 unfolding point_at

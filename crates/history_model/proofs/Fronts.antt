@@ -21,9 +21,9 @@ wide_front n m a b p q e =
     (sym (from_be_bytes-to_be_bytes_8 n p) ∙ ap (from_be_bytes w64) same ∙ from_be_bytes-to_be_bytes_8 m q, ap (drop 8) e)
 
 -- a coordinate in range
-small : (z : ℤ) → IsTrue (is_coordinate z) → cast_unsigned w64 z < 2 ^ 64
-small (pos n) p = let h = leb-true n (2 ^ 40) p in omega arith
-small (negsuc n) p = omega arith
+pub wide_number : (z : ℤ) → IsTrue (is_coordinate z) → cast_unsigned w64 z < 2 ^ 64
+wide_number (pos n) p = let h = leb-true n (2 ^ 40) p in omega arith
+wide_number (negsuc n) p = omega arith
 
 one_coordinate : (z w : ℤ) → IsTrue (is_coordinate z) → IsTrue (is_coordinate w) → cast_unsigned w64 z ≡ cast_unsigned w64 w → z ≡ w
 one_coordinate (pos n) (pos m) p q e = ap pos e
@@ -43,7 +43,7 @@ one_coordinate (negsuc n) (negsuc m) p q e =
 
 pub coordinate_front : (z w : ℤ) (a b : List ℕ) → IsTrue (is_coordinate z) → IsTrue (is_coordinate w) → coordinate_bytes z ++ a ≡ coordinate_bytes w ++ b → (z ≡ w) × (a ≡ b)
 coordinate_front z w a b p q e =
-    let parts = wide_front (cast_unsigned w64 z) (cast_unsigned w64 w) a b (small z p) (small w q) e in
+    let parts = wide_front (cast_unsigned w64 z) (cast_unsigned w64 w) a b (wide_number z p) (wide_number w q) e in
     (one_coordinate z w p q parts.0, parts.1)
 
 pub point_front : (p q : Point) (a b : List ℕ) → IsTrue (is_grid_point p) → IsTrue (is_grid_point q) → point_bytes p ++ a ≡ point_bytes q ++ b → (p ≡ q) × (a ≡ b)

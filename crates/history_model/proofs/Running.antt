@@ -47,7 +47,7 @@ at_seam [] rest x = refl
 at_seam (y ∷ front) rest x = at_seam front rest x
 
 -- the drawing with an entry more
-edits_of-append : (S : Drawing) (front rest : List Entry) → after_all S (edits_of (front ++ rest)) ≡ after_all (after_all S (edits_of front)) (edits_of rest)
+pub edits_of-append : (S : Drawing) (front rest : List Entry) → after_all S (edits_of (front ++ rest)) ≡ after_all (after_all S (edits_of front)) (edits_of rest)
 edits_of-append S [] rest = refl
 edits_of-append S (x ∷ front) rest = edits_of-append (after S x.edit) front rest
 
@@ -86,7 +86,7 @@ right_step m front seen e es given (Err rule) is saw on rest =
     let now : AreAnswersFrom (replay front) (length front) es given = subst (λ S. AreAnswersFrom S (length front) es given) (ap (drawing_of (replay front)) is) on in
     (refused_right m front (entries_of 1 es given) seen e rule is saw, rest front (max seen (length front)) (omega arith) now)
 
-none_right : (m : Bounds) (history : List Entry) (seen : ℕ) (es : List Edit) → AreRight m history 1 seen es []
+pub none_right : (m : Bounds) (history : List Entry) (seen : ℕ) (es : List Edit) → AreRight m history 1 seen es []
 none_right m history seen [] = tt
 none_right m history seen (e ∷ es) = tt
 
