@@ -41,7 +41,9 @@ pub fn edited<L: Ledger>(
         Edit::AddIsoNode { face, geom } => add_iso_node(alloc, tables, *face, *geom, steps),
         Edit::MoveIsoNode { node, geom } => move_iso_node(alloc, tables, *node, *geom, steps),
         Edit::RemoveIsoNode { node } => remove_iso_node(alloc, tables, *node, steps),
-        Edit::AddIsoEdge { start, end, line } => add_iso_edge(alloc, tables, *start, *end, line, steps),
+        Edit::AddIsoEdge { start, end, line } => add_iso_edge(
+            alloc, tables, *start, *end, line, steps,
+        ),
         Edit::RemoveIsoEdge { edge } => remove_iso_edge(alloc, tables, *edge, steps),
         Edit::AddEdgeModFace { start, end, line } => {
             add_edge(alloc, tables, *start, *end, line, false, steps)
@@ -57,7 +59,9 @@ pub fn edited<L: Ledger>(
             heal_edges(alloc, tables, *edge, *other, false, steps)
         }
         Edit::NewEdgeHeal { edge, other } => heal_edges(alloc, tables, *edge, *other, true, steps),
-        Edit::AddLayer { name, kind, child } => add_layer(alloc, tables, name, *kind, *child, steps),
+        Edit::AddLayer { name, kind, child } => add_layer(
+            alloc, tables, name, *kind, *child, steps,
+        ),
         Edit::CreateTopoGeom { layer, elements } => {
             create(alloc, tables, *layer, elements.pairs(), steps)
         }

@@ -14,12 +14,7 @@ use topo_base::{EdgeId, EdgeRow, Memory, NodeId, RowId, RowWrite, Steps};
 use topo_tables::{Tables, Writes};
 
 /// The writes of the links about a node at which an edge that goes begins or ends.
-fn unlinks_at(
-    alloc: Global,
-    tables: &Tables,
-    edge: EdgeId,
-    node: NodeId,
-) -> Result<Writes, Memory>
+fn unlinks_at(alloc: Global, tables: &Tables, edge: EdgeId, node: NodeId) -> Result<Writes, Memory>
     requires { IsPlainInOrder (drawn tables.now.rows) }
     ensures links { IfOk result (λ ws. ws ≡ unlinks_at (drawn tables.now.rows) edge node) }
     ensures some { IfOk result (λ _. HasDirections (drawn tables.now.rows) node) }
