@@ -1,7 +1,9 @@
 pub mod Ascending
+pub mod Conflicts
 pub mod Following
 pub mod OnlyIf
 pub mod Pairs
+pub mod Pieces
 pub mod PlainLines
 pub mod Raw
 pub mod References

@@ -17,3 +17,9 @@ pub record IsInOrder (pairs ordered : List IdPair) : Type 0 where
   pub ascend : IsTrue (pairs_ascend ordered)
   pub from : (p : IdPair) → Contains ordered p → Contains pairs p
   pub to : (p : IdPair) → Contains pairs p → Contains ordered p
+
+-- the pairs of which this holds, ascending and so each once
+pub record AreAllOf (P : IdPair → Type 0) (pairs : List IdPair) : Type 0 where
+  pub ascend : IsTrue (pairs_ascend pairs)
+  pub only : (p : IdPair) → Contains pairs p → P p
+  pub all : (p : IdPair) → P p → Contains pairs p

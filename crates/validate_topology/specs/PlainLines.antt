@@ -8,7 +8,8 @@ use Rattle.drawing.specs.Rows.{row_at}
 use Rattle.drawing.specs.Drawing.{node_id_of}
 use Rattle.drawing.specs.Tables.{Tables}
 use Rattle.validate_topology.specs.OnlyIf.{only_if}
-use Rattle.validate_topology.specs.Pairs.{pairs_ascend}
+use Rattle.validate_topology.specs.Conflicts.{AreCoincident, AreCrossing, IsNodeInside}
+use Rattle.validate_topology.specs.Pairs.{AreAllOf}
 use Rattle.validate_topology.specs.declared.pairs.IdPair.{IdPair}
 use Rattle.validate_topology.specs.declared.lines.ReportLine.{ReportLine}
 use Rattle.validate_topology.specs.declared.lines.ReportLine.TheVariants.{CoincidentNodes, EdgeStartMismatch, EdgeEndMismatch, EdgeNotSimple, EdgeCrossesNode, EdgeCrossesEdge}
@@ -42,12 +43,12 @@ crossed_node p = EdgeCrossesNode p.first p.second
 abbrev pub crossed_edge : IdPair → ReportLine
 crossed_edge p = EdgeCrossesEdge p.first p.second
 
--- the lines, with some pairs of nodes, of edges and nodes, and of edges, each in order and once
+-- the lines of the second stage, each kind in order and each line once
 pub record HasPlainLines (t : Tables) (lines : List ReportLine) : Type 0 where
   pub nodes : List IdPair
+  pub nodes_are : AreAllOf (AreCoincident t.nodes) nodes
   pub inside : List IdPair
+  pub inside_are : AreAllOf (IsNodeInside t.nodes t.edges) inside
   pub edges : List IdPair
-  pub nodes_ascend : IsTrue (pairs_ascend nodes)
-  pub inside_ascend : IsTrue (pairs_ascend inside)
-  pub edges_ascend : IsTrue (pairs_ascend edges)
+  pub edges_are : AreAllOf (AreCrossing t.edges) edges
   pub all : lines ≡ map coincident nodes ++ (starts_mismatched t.nodes t.edges ++ ends_mismatched t.nodes t.edges ++ not_simple t.edges) ++ map crossed_node inside ++ map crossed_edge edges

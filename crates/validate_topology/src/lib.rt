@@ -1,13 +1,14 @@
 //! A report on tables from anywhere: what keeps them from standing for a planar subdivision, and where.
 //!
 //! It stands on the exact tests of `grid_segments`, `grid_lines`, `grid_angle` and `grid_rays`, and on the tables of
-//! `drawing`. It promises the lines on ids and references, and those on the ends and lines of edges, exactly as
-//! `specs/` defines them. The lines on crossings, links, rings, faces and boxes have no clause. Reading dumps and
+//! `drawing`. It promises the lines on ids and references, and those on points and lines, exactly as `specs/` defines
+//! them. The lines on links, rings, faces and boxes have no clause. Reading dumps and
 //! printing lines is left to `table_dump`.
 #![tactic(auto)]
 
 mod above;
 mod ceiling;
+mod conflicts;
 mod counters;
 mod crossing;
 mod layer_lines;

@@ -105,8 +105,8 @@ fn counted_report<L: Ledger>(alloc: Global, raw: &RawTables, blank: Blank) -> Re
     Ok(report)
 }
 
-/// What is wrong with the tables, and where: the lines of the first stage that has any. Those of the first
-/// stage are exactly those of the definition, and so are those of the second on the ends and lines of edges.
+/// What is wrong with the tables, and where: the lines of the first stage that has any. Those of the first two
+/// stages are exactly those of the definition.
 pub fn report(alloc: Global, raw: &RawTables) -> Result<Report, Memory>
     ensures { IfOk result (IsReport (tables_in raw.now)) }
 {

@@ -1,5 +1,8 @@
-use Rattle.std.proofs.Common.{◌++◌, ◌∙◌, List, map, refl, ap}
+use Rattle.std.proofs.Common.{◌++◌, ◌∙◌, List, map, refl, ap, subst}
+use Rattle.topo_base.specs.declared.rows.NodeRow.{NodeRow}
 use Rattle.topo_base.specs.declared.rows.EdgeRow.{EdgeRow}
+use Rattle.validate_topology.specs.Conflicts.{AreCoincident, AreCrossing, IsNodeInside}
+use Rattle.validate_topology.specs.Pairs.{AreAllOf}
 use Rattle.validate_topology.specs.PlainLines.{coincident, crossed_edge, crossed_node, ends_mismatched, not_simple, starts_mismatched}
 use Rattle.validate_topology.specs.Raw.{tables_in}
 use Rattle.validate_topology.specs.declared.pairs.IdPair.{IdPair}
@@ -17,9 +20,10 @@ returns g c =
           nodes = found.nodes.items;
           inside = found.inside.items;
           edges = found.edges.items;
-          nodes_ascend = c.in_ok-conflicts.ensures.nodes;
-          inside_ascend = c.in_ok-conflicts.ensures.inside;
-          edges_ascend = c.in_ok-conflicts.ensures.edges;
+          nodes_are = subst (λ (xs : List NodeRow). AreAllOf (AreCoincident xs) found.nodes.items) c.rows.ensures.rows c.in_ok-conflicts.ensures.nodes;
+          inside_are = subst (λ (xs : List NodeRow). AreAllOf (IsNodeInside xs t.edges) found.inside.items) c.rows.ensures.rows
+              (subst (λ (xs : List EdgeRow). AreAllOf (IsNodeInside c.rows.result.now xs) found.inside.items) c.rows-edges.ensures.rows c.in_ok-conflicts.ensures.inside);
+          edges_are = subst (λ (xs : List EdgeRow). AreAllOf (AreCrossing xs) found.edges.items) c.rows-edges.ensures.rows c.in_ok-conflicts.ensures.edges;
           all = refl;
         },
         four_pushed c.args.report.now _ _ _ _ (map coincident found.nodes.items) (on_edges t.edges) (map crossed_node found.inside.items) (map crossed_edge found.edges.items)
