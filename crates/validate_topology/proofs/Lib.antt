@@ -1,8 +1,13 @@
 pub mod Ascending
 pub mod Crossings
+pub mod Ends
 pub mod InOrder
+pub mod LeastBoxes
 pub mod Lookups
+pub mod Marked
 pub mod PieceConflicts
 pub mod PieceOrder
+pub mod Plain
 pub mod Pushing
+pub mod Staging
 pub mod Sweeping

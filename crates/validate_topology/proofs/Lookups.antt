@@ -15,7 +15,7 @@ use Rattle.drawing.specs.Rows.{row_at}
 use Rattle.validate_topology.specs.Ascending.{numbers_ascend}
 
 -- each id is above the first number, and below those behind it
-above : {R : Type 0} (number : R → ℕ) (low : ℕ) (rows : List R) (j : ℕ) (d : R) → IsTrue (numbers_ascend number low rows) → j < length rows → low < number (get_or rows j d)
+pub above : {R : Type 0} (number : R → ℕ) (low : ℕ) (rows : List R) (j : ℕ) (d : R) → IsTrue (numbers_ascend number low rows) → j < length rows → low < number (get_or rows j d)
 above number low [] j d h w = absurd (omega arith)
 above number low (r ∷ rows) zero d h w = ltb-true low (number r) ((and_parts (nat_lt low (number r)) (numbers_ascend number (number r) rows) h).0)
 above number low (r ∷ rows) (suc j) d h w =

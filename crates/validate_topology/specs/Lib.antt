@@ -1,6 +1,8 @@
 pub mod Ascending
+pub mod BoxLines
 pub mod Conflicts
 pub mod Following
+pub mod LinkLines
 pub mod OnlyIf
 pub mod Pairs
 pub mod Pieces

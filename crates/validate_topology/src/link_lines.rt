@@ -1,5 +1,10 @@
 // What is wrong with containing faces and links.
-ghost use Rattle.std.specs.Prelude.{◌≡◌, length, IfOk, vec_len};
+ghost use Rattle.std.specs.Prelude.{◌≡◌, ◌++◌, ◌||◌, ◌==◌, ℕ, Bool, true, List, length, map, if◌then◌else◌, IfOk, OnOk, vec_len};
+ghost use Rattle.topo_base.specs.declared.rows.NodeRow.{NodeRow as NodeValue};
+ghost use Rattle.drawing.specs.Drawing.{is_end_of};
+ghost use Rattle.drawing.specs.Tables.{drawn_edge};
+ghost use Rattle.validate_topology.specs.declared.lines.ReportLine.{ReportLine as LineValue};
+ghost use Rattle.validate_topology.specs.LinkLines.{has_edge, isolated_without_face, joined_with_face, nodes_isolated, nodes_joined};
 
 use crate::lines::{Report, ReportLine};
 use crate::sides::{Side, dart_of, link_of};
@@ -9,12 +14,26 @@ use std::alloc::Global;
 use topo_base::{EdgeRow, Memory, NodeId, NodeRow, is_same_dart};
 
 /// Marks the place of a node.
-fn mark(nodes: &Rows<NodeRow>, node: NodeId, joined: &mut [bool])
-    requires { length joined.old ≡ length nodes.now }
+fn mark(nodes: &Rows<NodeRow>, node: NodeId, joined: &mut Vec<bool>)
+    requires { vec_len joined.old ≡ length nodes.now }
+    ensures len { vec_len joined.new ≡ vec_len joined.old }
+    ensures marked { (seen : ℕ → Bool) → joined.old.items ≡ map (λ (n : NodeValue). seen n.node_id) nodes.now → joined.new.items ≡ map (λ (n : NodeValue). if n.node_id == node then true else seen n.node_id) nodes.now }
 {
-    if let Some(place) = nodes.place_of(node.0) {
-        joined[place] = true;
-    }
+    let _ = nodes.rows();
+    let Some(place) = nodes.place_of(node.0) else {
+        return;
+    };
+    joined[place] = true;
+}
+
+/// Marks the places of the ends of an edge.
+fn mark_ends(nodes: &Rows<NodeRow>, row: &EdgeRow, joined: &mut Vec<bool>)
+    requires { vec_len joined.old ≡ length nodes.now }
+    ensures len { vec_len joined.new ≡ vec_len joined.old }
+    ensures marked { (seen : ℕ → Bool) → joined.old.items ≡ map (λ (n : NodeValue). seen n.node_id) nodes.now → joined.new.items ≡ map (λ (n : NodeValue). seen n.node_id || is_end_of n.node_id (drawn_edge row.now)) nodes.now }
+{
+    mark(nodes, row.start_node, joined);
+    mark(nodes, row.end_node, joined);
 }
 
 /// For each node, whether it has an edge.
@@ -22,39 +41,75 @@ fn joined_nodes(
     alloc: Global,
     nodes: &Rows<NodeRow>,
     edges: &[EdgeRow],
-) -> Result<Vec<bool>, Memory> {
+) -> Result<Vec<bool>, Memory>
+    ensures len { IfOk result (λ v. vec_len v ≡ length nodes.now) }
+    ensures joined { IfOk result (λ v. v.items ≡ map (λ (n : NodeValue). has_edge (map drawn_edge edges.now) n.node_id) nodes.now) }
+{
     let mut joined = vec![in alloc; false; nodes.rows().len()]?;
     for row in edges {
-        mark(nodes, row.start_node, &mut joined);
-        mark(nodes, row.end_node, &mut joined);
+        mark_ends(nodes, row, &mut joined);
     }
     Ok(joined)
+}
+
+fn node_joined(row: &NodeRow, has_edge: bool, report: &mut Report) -> Result<(), Memory>
+    ensures { OnOk result (report.new ≡ report.old ++ joined_with_face has_edge row.now.node_id row.now.containing_face) }
+{
+    let node = row.node_id;
+    match row.containing_face {
+        None => Ok(()),
+        Some(face) => report.push_if(has_edge, ReportLine::NodeJoinedWithFace { node, face }),
+    }
 }
 
 fn nodes_joined_with_face(
     nodes: &[NodeRow],
     joined: &[bool],
     report: &mut Report,
-) -> Result<(), Memory> {
-    for (row, has_edge) in nodes.iter().zip(joined) {
-        let node = row.node_id;
-        if let Some(face) = row.containing_face {
-            report.push_if(*has_edge, ReportLine::NodeJoinedWithFace { node, face })?;
-        }
+) -> Result<(), Memory>
+    requires { length joined.now ≡ length nodes.now }
+    ensures { OnOk result ((has : ℕ → Bool) → joined.now ≡ map (λ (n : NodeValue). has n.node_id) nodes.now → report.new ≡ report.old ++ nodes_joined has nodes.now) }
+{
+    for index in 0..nodes.len() {
+        node_joined(&nodes[index], joined[index], report)?;
     }
     Ok(())
+}
+
+fn node_isolated(row: &NodeRow, has_edge: bool, report: &mut Report) -> Result<(), Memory>
+    ensures { OnOk result (report.new ≡ report.old ++ isolated_without_face has_edge row.now.node_id row.now.containing_face) }
+{
+    let node = row.node_id;
+    let wrong = row.containing_face.is_none() && !has_edge;
+    report.push_if(wrong, ReportLine::NodeIsolatedWithoutFace { node })
 }
 
 fn nodes_isolated_without_face(
     nodes: &[NodeRow],
     joined: &[bool],
     report: &mut Report,
-) -> Result<(), Memory> {
-    for (row, has_edge) in nodes.iter().zip(joined) {
-        let node = row.node_id;
-        let wrong = row.containing_face.is_none() && !*has_edge;
-        report.push_if(wrong, ReportLine::NodeIsolatedWithoutFace { node })?;
+) -> Result<(), Memory>
+    requires { length joined.now ≡ length nodes.now }
+    ensures { OnOk result ((has : ℕ → Bool) → joined.now ≡ map (λ (n : NodeValue). has n.node_id) nodes.now → report.new ≡ report.old ++ nodes_isolated has nodes.now) }
+{
+    for index in 0..nodes.len() {
+        node_isolated(&nodes[index], joined[index], report)?;
     }
+    Ok(())
+}
+
+/// The lines on nodes with and without edges.
+fn node_lines(
+    alloc: Global,
+    nodes: &Rows<NodeRow>,
+    edges: &[EdgeRow],
+    report: &mut Report,
+) -> Result<(), Memory>
+    ensures { OnOk result (report.new ≡ report.old ++ nodes_joined (has_edge (map drawn_edge edges.now)) nodes.now ++ nodes_isolated (has_edge (map drawn_edge edges.now)) nodes.now) }
+{
+    let joined = joined_nodes(alloc, nodes, edges)?;
+    nodes_joined_with_face(nodes.rows(), &joined, report)?;
+    nodes_isolated_without_face(nodes.rows(), &joined, report)?;
     Ok(())
 }
 
@@ -78,6 +133,7 @@ fn links_wrong(
     report: &mut Report,
 ) -> Result<(), Memory>
     requires { length followers.now ≡ length sides.now }
+    ensures { OnOk result ((more : List LineValue) × (report.new ≡ report.old ++ more)) }
 {
     for place in 0..sides.len() {
         if sides[place].is_forward == is_forward
@@ -99,10 +155,9 @@ pub fn link_lines(
     report: &mut Report,
 ) -> Result<(), Memory>
     requires { length followers.now ≡ length sides.now }
+    ensures { OnOk result ((links : List LineValue) × (report.new ≡ report.old ++ nodes_joined (has_edge (map drawn_edge edges.now)) nodes.now ++ nodes_isolated (has_edge (map drawn_edge edges.now)) nodes.now ++ links)) }
 {
-    let joined = joined_nodes(alloc, nodes, edges)?;
-    nodes_joined_with_face(nodes.rows(), &joined, report)?;
-    nodes_isolated_without_face(nodes.rows(), &joined, report)?;
+    node_lines(alloc, nodes, edges, report)?;
     links_wrong(sides, followers, true, report)?;
     links_wrong(sides, followers, false, report)
 }

@@ -1,9 +1,11 @@
 // The stages of a report.
 ghost use Rattle.std.specs.Prelude.{◌≡◌, ◌<◌, [], ◌++◌, OnOk, IfOk};
+ghost use Rattle.drawing.specs.Plain.{IsPlain};
+ghost use Rattle.drawing.specs.Tables.{drawn};
 ghost use Rattle.validate_topology.specs.Raw.{tables_in};
 ghost use Rattle.validate_topology.specs.References.{drawing_references as lines_of_drawing, layer_references as lines_of_layers, past_next as lines_past_next};
 ghost use Rattle.validate_topology.specs.RelationLines.{AreReferenceLines};
-ghost use Rattle.validate_topology.specs.Stages.{IsReport};
+ghost use Rattle.validate_topology.specs.Stages.{AreFaceLines, IsReport};
 
 use crate::counters::{
     edges_past_next, faces_past_next, features_past_next, layers_past_next, nodes_past_next,
@@ -69,7 +71,10 @@ fn reference_lines(alloc: Global, raw: &RawTables, report: &mut Report) -> Resul
 }
 
 /// The lines on rings and faces, of tables with right references and plain lines.
-fn face_lines(alloc: Global, raw: &RawTables, report: &mut Report) -> Result<(), Memory> {
+fn face_lines(alloc: Global, raw: &RawTables, report: &mut Report) -> Result<(), Memory>
+    requires { report.old ≡ [] }
+    ensures { OnOk result (AreFaceLines (tables_in raw.now) report.new) }
+{
     let edges = raw.edges.rows();
     let sides = sides_of(alloc, edges)?;
     let followers = followers_of(alloc, edges)?;
@@ -82,7 +87,8 @@ fn face_lines(alloc: Global, raw: &RawTables, report: &mut Report) -> Result<(),
     if !report.is_empty() {
         return Ok(());
     }
-    place_lines(alloc, edges, raw.nodes.rows(), &raw.faces, &walks, report)
+    place_lines(alloc, edges, raw.nodes.rows(), &raw.faces, &walks, report)?;
+    Ok(())
 }
 
 fn counted_report<L: Ledger>(alloc: Global, raw: &RawTables, blank: Blank) -> Result<Report, Memory>
@@ -106,9 +112,12 @@ fn counted_report<L: Ledger>(alloc: Global, raw: &RawTables, blank: Blank) -> Re
 }
 
 /// What is wrong with the tables, and where: the lines of the first stage that has any. Those of the first two
-/// stages are exactly those of the definition.
+/// stages are exactly those of the definition, and so are those on nodes and boxes. Tables without lines stand for a
+/// plain drawing.
 pub fn report(alloc: Global, raw: &RawTables) -> Result<Report, Memory>
-    ensures { IfOk result (IsReport (tables_in raw.now)) }
+    ensures lines { IfOk result (IsReport (tables_in raw.now)) }
+    ensures plain { IfOk result (λ r. r ≡ [] → IsPlain (drawn (tables_in raw.now))) }
 {
+    let _ = raw.nodes.rows();
     counted_report::<Brand>(alloc, raw, Blank::new(1))
 }
