@@ -4,7 +4,9 @@
 //! lines of a report. What the tables have to meet is left to the report.
 #![tactic(auto)]
 
+mod ends;
 mod fields;
+mod laws;
 mod pieces;
 mod read;
 mod rows;
@@ -12,5 +14,6 @@ mod rows;
 mod tests;
 mod text;
 
+pub use laws::dump_law;
 pub use read::{DumpEnd, read_tables};
 pub use text::report_text;

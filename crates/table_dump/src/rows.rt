@@ -1,24 +1,38 @@
 // The rows of a dump, from the words behind the first.
+ghost use Rattle.std.specs.Prelude.{◌≡◌, ◌&&◌, Some, codes};
+ghost use Rattle.std.specs.Str.{bytes_eq};
+ghost use Rattle.table_dump.specs.Lines.{words_of, words_behind};
+ghost use Rattle.table_dump.specs.Words.{Gives, whole};
+ghost use Rattle.table_dump.specs.Rows.{alone, next_in, counters_at, node_at, edge_at, face_at, layer_at, feature_at, relation_at, is_universal};
+
+use crate::ends::LineEnd;
 use crate::fields::{dart, kind, line, mbr, name, named_id, next_id, option_id, own_id, point};
-use crate::pieces::Words;
+use crate::pieces::{front_word, next_word};
 use std::alloc::Global;
 use topo_base::{
     Counters, Dart, EdgeId, EdgeRow, FaceId, FaceRow, FeatureId, FeatureRow, Grid, LayerId,
-    LayerRow, Memory, NodeId, NodeRow, RelationRow,
+    LayerRow, NodeId, RelationRow,
 };
-use validate_topology::Rows;
 
 /// Something that was read, where no word is left behind it.
-fn alone<T: Drop>(read: T, words: &Words<'_>) -> Option<T> {
-    if words.is_end() { Some(read) } else { None }
+fn ended<T: Drop>(read: T, rest: &[u8]) -> Result<T, LineEnd>
+    ensures { Gives (λ x. x) result (whole (read, words_behind rest.now)) }
+{
+    match rest {
+        [] => Ok(read),
+        [_, ..] => Err(LineEnd::Bad),
+    }
 }
 
-pub fn counters(words: &mut Words<'_>) -> Option<Counters> {
-    let node = next_id(words)?;
-    let edge = next_id(words)?;
-    let face = next_id(words)?;
-    let layer = next_id(words)?;
-    let feature = next_id(words)?;
+#[tactic(auto, unfolding(crate::specs::Rows::counters_at))]
+fn counters(words: &[u8]) -> Result<Counters, LineEnd>
+    ensures { Gives (λ x. x) result (alone counters_at (words_behind words.now)) }
+{
+    let (node, rest) = next_id(words)?;
+    let (edge, rest) = next_id(rest)?;
+    let (face, rest) = next_id(rest)?;
+    let (layer, rest) = next_id(rest)?;
+    let (feature, rest) = next_id(rest)?;
     let next = Counters {
         node,
         edge,
@@ -26,164 +40,176 @@ pub fn counters(words: &mut Words<'_>) -> Option<Counters> {
         layer,
         feature,
     };
-    alone(next, words)
+    ended(next, rest)
+}
+
+/// The next ids, where the line is that of these.
+#[tactic(auto, unfolding(crate::specs::Rows::next_in))]
+pub fn read_next(line: &[u8]) -> Result<Counters, LineEnd>
+    ensures { Gives (λ x. x) result (next_in (words_of line.now)) }
+{
+    let (first, words) = front_word(line);
+    if first == b"next".as_slice() {
+        counters(words)
+    } else {
+        Err(LineEnd::Bad)
+    }
 }
 
 /// A node's id, containing face and point.
 #[derive(Clone, Copy)]
-struct NodeFields {
-    id: u32,
-    face: Option<u32>,
-    geom: Grid,
+pub struct NodeFields {
+    pub id: u32,
+    pub face: Option<u32>,
+    pub geom: Grid,
 }
 
-fn node_fields(words: &mut Words<'_>) -> Option<NodeFields> {
-    let id = own_id(words)?;
-    let face = option_id(words)?;
-    let geom = point(words)?;
-    alone(NodeFields { id, face, geom }, words)
-}
-
-/// Reads a node, and says whether it stands behind the others.
-pub fn read_node(nodes: &mut Rows<NodeRow>, words: &mut Words<'_>) -> Result<bool, Memory> {
-    let Some(fields) = node_fields(words) else {
-        return Ok(false);
-    };
-    match fields.face {
-        None => nodes.push(NodeRow {
-            node_id: NodeId(fields.id),
-            containing_face: None,
-            geom: fields.geom,
-        }),
-        Some(face) => nodes.push(NodeRow {
-            node_id: NodeId(fields.id),
-            containing_face: Some(FaceId(face)),
-            geom: fields.geom,
-        }),
+#[tactic(auto, unfolding(crate::specs::Rows::node_at))]
+pub fn node_fields(words: &[u8]) -> Result<NodeFields, LineEnd>
+    ensures { Gives (λ x. record { node_id = x.id; containing_face = x.face; geom = x.geom }) result (alone node_at (words_behind words.now)) }
+{
+    let (id, rest) = own_id(words)?;
+    let (face, rest) = option_id(rest)?;
+    match point(rest) {
+        Ok((geom, rest)) => ended(NodeFields { id, face, geom }, rest),
+        Err(end) => Err(end),
     }
 }
 
-/// The ends, links and sides of an edge.
-#[derive(Clone, Copy, Debug)]
-struct EdgeIds {
-    edge: u32,
-    start: u32,
-    end: u32,
-    left: u32,
-    right: u32,
-    next_left: Dart,
-    next_right: Dart,
+/// An edge as it is walked.
+fn dart_of(edge: u32, forward: bool) -> Dart
+    ensures { result ≡ record { edge = edge; forward = forward } }
+{
+    Dart {
+        edge: EdgeId(edge),
+        forward,
+    }
 }
 
-fn edge_ids(words: &mut Words<'_>) -> Option<EdgeIds> {
-    let edge = own_id(words)?;
-    let start = named_id(words)?;
-    let end = named_id(words)?;
-    let next_left = dart(words)?;
-    let next_right = dart(words)?;
-    let left = named_id(words)?;
-    let right = named_id(words)?;
-    Some(EdgeIds {
-        edge,
-        start,
-        end,
-        left,
-        right,
-        next_left,
-        next_right,
-    })
+#[tactic(auto, unfolding(crate::specs::Rows::edge_at))]
+pub fn edge_row(alloc: Global, words: &[u8]) -> Result<EdgeRow, LineEnd>
+    ensures { Gives (λ x. x) result (alone edge_at (words_behind words.now)) }
+{
+    let (edge, rest) = own_id(words)?;
+    let (start, rest) = named_id(rest)?;
+    let (end, rest) = named_id(rest)?;
+    let (next_left, is_left_forward, rest) = dart(rest)?;
+    let (next_right, is_right_forward, rest) = dart(rest)?;
+    let (left, rest) = named_id(rest)?;
+    let (right, rest) = named_id(rest)?;
+    match line(alloc, rest) {
+        Ok((geom, rest)) => ended(
+            EdgeRow {
+                edge_id: EdgeId(edge),
+                start_node: NodeId(start),
+                end_node: NodeId(end),
+                next_left_edge: dart_of(next_left, is_left_forward),
+                next_right_edge: dart_of(next_right, is_right_forward),
+                left_face: FaceId(left),
+                right_face: FaceId(right),
+                geom,
+            },
+            rest,
+        ),
+        Err(end) => Err(end),
+    }
 }
 
-pub fn edge_row(alloc: Global, words: &mut Words<'_>) -> Result<Option<EdgeRow>, Memory> {
-    let Some(ids) = edge_ids(words) else {
-        return Ok(None);
-    };
-    let Some(geom) = line(alloc, words)? else {
-        return Ok(None);
-    };
-    let row = EdgeRow {
-        edge_id: EdgeId(ids.edge),
-        start_node: NodeId(ids.start),
-        end_node: NodeId(ids.end),
-        next_left_edge: ids.next_left,
-        next_right_edge: ids.next_right,
-        left_face: FaceId(ids.left),
-        right_face: FaceId(ids.right),
-        geom,
-    };
-    Ok(alone(row, words))
+/// Whether these are the words of face 0.
+fn are_universal(id: &[u8], mbr: &[u8]) -> bool
+    ensures { result ≡ (bytes_eq id.now (codes "0") && bytes_eq mbr.now (codes "-")) }
+{
+    id == b"0".as_slice() && mbr == b"-".as_slice()
 }
 
 /// Whether the words are those of face 0.
-pub fn is_face_0(words: &mut Words<'_>) -> bool {
-    let is_0 = words.word() == Some(b"0".as_slice());
-    is_0 && words.word() == Some(b"-".as_slice()) && words.is_end()
+pub fn is_face_0(words: &[u8]) -> bool
+    ensures { result ≡ is_universal (words_behind words.now) }
+{
+    let Some((id, rest)) = next_word(words) else {
+        return false;
+    };
+    let Some((mbr, rest)) = next_word(rest) else {
+        return false;
+    };
+    match rest {
+        [] => are_universal(id, mbr),
+        [_, ..] => false,
+    }
 }
 
-pub fn face_row(words: &mut Words<'_>) -> Option<FaceRow> {
-    let id = own_id(words)?;
-    let mbr = mbr(words)?;
+#[tactic(auto, unfolding(crate::specs::Rows::face_at))]
+pub fn face_row(words: &[u8]) -> Result<FaceRow, LineEnd>
+    ensures { Gives (λ x. x) result (alone face_at (words_behind words.now)) }
+{
+    let (id, rest) = own_id(words)?;
+    let (mbr, rest) = mbr(rest)?;
     let row = FaceRow {
         face_id: FaceId(id),
         mbr: Some(mbr),
     };
-    alone(row, words)
+    ended(row, rest)
 }
 
 /// A layer as it may be named.
-fn layer_of(id: Option<u32>) -> Option<LayerId> {
+fn layer_of(id: Option<u32>) -> Option<LayerId>
+    ensures { result ≡ id }
+{
     match id {
         None => None,
         Some(id) => Some(LayerId(id)),
     }
 }
 
-pub fn layer_row(alloc: Global, words: &mut Words<'_>) -> Result<Option<LayerRow>, Memory> {
-    let Some(id) = own_id(words) else {
-        return Ok(None);
-    };
-    let Some(level) = named_id(words) else {
-        return Ok(None);
-    };
-    let Some(child) = option_id(words) else {
-        return Ok(None);
-    };
-    let Some(feature_type) = kind(words) else {
-        return Ok(None);
-    };
-    let Some(name) = name(alloc, words)? else {
-        return Ok(None);
-    };
-    let row = LayerRow {
-        layer_id: LayerId(id),
-        level,
-        child_id: layer_of(child),
-        feature_type,
-        name,
-    };
-    Ok(alone(row, words))
+#[tactic(auto, unfolding(crate::specs::Rows::layer_at))]
+pub fn layer_row(alloc: Global, words: &[u8]) -> Result<LayerRow, LineEnd>
+    ensures { Gives (λ x. x) result (alone layer_at (words_behind words.now)) }
+{
+    let (id, rest) = own_id(words)?;
+    let (level, rest) = named_id(rest)?;
+    let (child, rest) = option_id(rest)?;
+    let (feature_type, rest) = kind(rest)?;
+    match name(alloc, rest) {
+        Ok((name, rest)) => ended(
+            LayerRow {
+                layer_id: LayerId(id),
+                level,
+                child_id: layer_of(child),
+                feature_type,
+                name,
+            },
+            rest,
+        ),
+        Err(end) => Err(end),
+    }
 }
 
-pub fn feature_row(words: &mut Words<'_>) -> Option<FeatureRow> {
-    let id = own_id(words)?;
-    let layer = named_id(words)?;
+#[tactic(auto, unfolding(crate::specs::Rows::feature_at))]
+pub fn feature_row(words: &[u8]) -> Result<FeatureRow, LineEnd>
+    ensures { Gives (λ x. x) result (alone feature_at (words_behind words.now)) }
+{
+    let (id, rest) = own_id(words)?;
+    let (layer, rest) = named_id(rest)?;
     let row = FeatureRow {
         feature_id: FeatureId(id),
         layer_id: LayerId(layer),
     };
-    alone(row, words)
+    ended(row, rest)
 }
 
-pub fn relation_row(words: &mut Words<'_>) -> Option<RelationRow> {
-    let feature = named_id(words)?;
-    let layer = named_id(words)?;
-    let element_id = named_id(words)?;
-    let element_type = named_id(words)?;
+#[tactic(auto, unfolding(crate::specs::Rows::relation_at))]
+pub fn relation_row(words: &[u8]) -> Result<RelationRow, LineEnd>
+    ensures { Gives (λ x. x) result (alone relation_at (words_behind words.now)) }
+{
+    let (feature, rest) = named_id(words)?;
+    let (layer, rest) = named_id(rest)?;
+    let (element_id, rest) = named_id(rest)?;
+    let (element_type, rest) = named_id(rest)?;
     let row = RelationRow {
         topogeo_id: FeatureId(feature),
         layer_id: LayerId(layer),
         element_id,
         element_type,
     };
-    alone(row, words)
+    ended(row, rest)
 }

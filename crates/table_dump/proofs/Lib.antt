@@ -1,0 +1,12 @@
+pub mod Loops
+pub mod FieldLaws
+pub mod Numbers
+pub mod WordLaws
+pub mod RowLaws
+pub mod Spellings
+pub mod Lines
+pub mod Follow
+pub mod Segments
+pub mod Printed
+pub mod Places
+pub mod Dumps
