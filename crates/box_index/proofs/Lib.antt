@@ -1,0 +1,11 @@
+pub mod Levels
+pub mod Same
+pub mod Indexed
+pub mod Reach
+pub mod Left
+pub mod Passing
+pub mod Taken
+pub mod Gaps
+pub mod Taking
+pub mod Times
+pub mod Callers

@@ -1,0 +1,5 @@
+pub mod Boxes
+pub mod Cells
+pub mod LooseGrid
+pub mod Walk
+pub mod Near
