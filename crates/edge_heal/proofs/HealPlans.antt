@@ -13,7 +13,7 @@ use Rattle.drawing.specs.RemoveEdge.{have_same_features}
 use Rattle.drawing.specs.Rows.{row_at}
 use Rattle.drawing.specs.Tables.{Tables, drawn, drawn_edge, tables_of}
 use Rattle.drawing.specs.Writes.{edge_row_id}
-use Rattle.edit_conditions.proofs.RowTests.{edge_found, edge_none}
+use Rattle.drawing_queries.proofs.RowTests.{edge_found, edge_none}
 use Rattle.read_set.specs.declared.end.EditEnd.{EditEnd}
 use Rattle.read_set.specs.Edited.{AnswersOutcome}
 use Rattle.drawing.specs.Apply.{carried_out}

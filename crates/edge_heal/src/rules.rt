@@ -16,7 +16,7 @@ ghost use Rattle.ring_laws.specs.Ringed.{IsRinged};
 
 use crate::heal_new::heal_new;
 use crate::healing::heal_mod;
-use edit_conditions::{has_only, is_in_feature};
+use drawing_queries::{has_only, is_in_feature};
 use read_set::{EditEnd, Edited, Tried};
 use relation_rows::have_same_features;
 use std::alloc::Global;

@@ -1,21 +1,21 @@
 -- What is seen of a star, as half-edges come into it.
-use Rattle.std.proofs.Common.{◌≡◌, ℕ, ◌+◌, ◌<◌, ◌≤◌, zero, suc, refl, sym, ◌∙◌, ap, subst, arith, Bool, true, false, not, cond, List, [], ◌∷◌, length, ◌&&◌, get_or, map, filter, drop, Option, Some, None}
+use Rattle.std.proofs.Common.{◌≡◌, ℕ, ◌+◌, ◌<◌, ◌≤◌, zero, suc, refl, sym, ◌∙◌, ap, subst, arith, Bool, true, false, not, cond, List, [], ◌∷◌, ◌++◌, length, ◌||◌, get_or, map, filter, drop, Bor}
 use Rattle.std.specs.Prelude.{insert, flat_map}
 use Rattle.std.specs.List.{list_all}
 use Rattle.std.proofs.Math.Seq.{drop-cons, drop-length}
 use Rattle.std.proofs.lemmas.Bool.{and_parts, and_from}
-use Rattle.std.proofs.lemmas.List.Folds.{list_all-map}
+use Rattle.std.proofs.lemmas.List.Elements.{filter-append}
 use Rattle.topo_base.specs.declared.rows.EdgeRow.{EdgeRow}
 use Rattle.plane.specs.Direction.{is_nearer, straight_up}
-use Rattle.drawing.specs.Drawing.{Drawing, Edge}
+use Rattle.drawing.specs.Drawing.{Edge, is_end_of}
 use Rattle.drawing.specs.HalfEdge.{HalfEdge, dart_of, forward_of, backward_of, both_ways, leaves}
-use Rattle.plane.specs.Line.{first_vertex, last_vertex}
-use Rattle.plane.specs.LinePoints.{has_proper_segments}
-use Rattle.drawing.specs.Places.{rows_of}
-use Rattle.drawing.specs.Plain.{IsPlain, is_between_nodes, has_point}
+use Rattle.drawing.specs.Plain.{IsPlain}
 use Rattle.drawing.specs.Star.{leaving, insert_clockwise, clockwise, star}
 use Rattle.drawing.specs.Tables.{Tables, drawn, drawn_edge}
-use Rattle.edge_links.specs.Rays.{Rays, rays_of, no_rays, with_ray, with_half_edge, with_both, with_slot, place_for, has_proper_line, in_each_slot}
+use Rattle.drawing_queries.proofs.Listed.{listed}
+use Rattle.drawing_queries.proofs.RowTests.{proper_rows}
+use Rattle.edge_links.specs.LinksLaw.{rays_at}
+use Rattle.edge_links.specs.Rays.{Rays, rays_of, no_rays, with_ray, with_half_edge, with_both, place_for, has_proper_line}
 
 -- ---- an element put before those that pass
 insert_here : {X : Type 0} (x y : X) (xs : List X) (b : Bool) (n : ℕ) → b ≡ true → insert (y ∷ xs) (cond (not b) (1 + n) 0) x ≡ x ∷ y ∷ xs
@@ -50,49 +50,62 @@ half_edge_seen n h hs = half_edge_by (leaves n h) h (filter (leaves n) hs)
 pub both_seen : (n : ℕ) (e : Edge) (hs : List HalfEdge) → with_both n e (rays_of (star hs n)) ≡ rays_of (star (forward_of e ∷ backward_of e ∷ hs) n)
 both_seen n e hs = ap (with_half_edge n (forward_of e)) (half_edge_seen n (backward_of e) hs) ∙ half_edge_seen n (forward_of e) (backward_of e ∷ hs)
 
--- ---- the edges at places, from one of them on
-abbrev pub half_edges_of : List (Option EdgeRow) → List HalfEdge
-half_edges_of slots = flat_map both_ways (map drawn_edge (rows_of slots))
+-- ---- edges that were found, from one of them on
+abbrev pub half_edges_of : List (Bor EdgeRow) → List HalfEdge
+half_edges_of rows = flat_map both_ways (map drawn_edge (map (λ (r : Bor EdgeRow). r.now) rows))
 
-slot_step : (n : ℕ) (slot : Option EdgeRow) (slots : List (Option EdgeRow)) → with_slot n slot (rays_of (star (half_edges_of slots) n)) ≡ rays_of (star (half_edges_of (slot ∷ slots)) n)
-slot_step n None slots = refl
-slot_step n (Some e) slots = both_seen n (drawn_edge e) (half_edges_of slots)
-
-pub slot_seen : (n i : ℕ) (slots : List (Option EdgeRow)) (slot : Option EdgeRow) (s : Rays) → i < length slots → slot ≡ get_or slots i slot → s ≡ rays_of (star (half_edges_of (drop (i + 1) slots)) n)
-    → with_slot n slot s ≡ rays_of (star (half_edges_of (drop i slots)) n)
-slot_seen n i slots slot s within is before =
+pub row_seen : (n i : ℕ) (rows : List (Bor EdgeRow)) (row : Bor EdgeRow) (s : Rays) → i < length rows → row ≡ get_or rows i row → s ≡ rays_of (star (half_edges_of (drop (i + 1) rows)) n)
+    → with_both n (drawn_edge row.now) s ≡ rays_of (star (half_edges_of (drop i rows)) n)
+row_seen n i rows row s within is before =
     let next : i + 1 ≡ suc i = omega arith in
-    ap (with_slot n slot) (before ∙ ap (λ k. rays_of (star (half_edges_of (drop k slots)) n)) next)
-    ∙ slot_step n slot (drop (suc i) slots)
-    ∙ ap (λ ss. rays_of (star (half_edges_of ss) n)) (ap (λ o. o ∷ drop (suc i) slots) is ∙ sym (drop-cons slots i slot within))
+    ap (with_both n (drawn_edge row.now)) (before ∙ ap (λ k. rays_of (star (half_edges_of (drop k rows)) n)) next)
+    ∙ both_seen n (drawn_edge row.now) (half_edges_of (drop (suc i) rows))
+    ∙ ap (λ rs. rays_of (star (half_edges_of rs) n)) (ap (λ r. r ∷ drop (suc i) rows) is ∙ sym (drop-cons rows i row within))
 
-pub none_seen : (n : ℕ) (slots : List (Option EdgeRow)) → no_rays ≡ rays_of (star (half_edges_of (drop (length slots) slots)) n)
-none_seen n slots = ap (λ ss. rays_of (star (half_edges_of ss) n)) (sym (drop-length slots))
+pub none_seen : (n : ℕ) (rows : List (Bor EdgeRow)) → no_rays ≡ rays_of (star (half_edges_of (drop (length rows) rows)) n)
+none_seen n rows = ap (λ rs. rays_of (star (half_edges_of rs) n)) (sym (drop-length rows))
 
-pub all_seen : (n i : ℕ) (slots : List (Option EdgeRow)) (s : Rays) → i ≤ 0 → s ≡ rays_of (star (half_edges_of (drop i slots)) n) → s ≡ rays_of (star (half_edges_of slots) n)
-all_seen n i slots s none e = let z : i ≡ 0 = omega arith in e ∙ ap (λ k. rays_of (star (half_edges_of (drop k slots)) n)) z
+pub all_seen : (n i : ℕ) (rows : List (Bor EdgeRow)) (s : Rays) → i ≤ 0 → s ≡ rays_of (star (half_edges_of (drop i rows)) n) → s ≡ rays_of (star (half_edges_of rows) n)
+all_seen n i rows s none e = let z : i ≡ 0 = omega arith in e ∙ ap (λ k. rays_of (star (half_edges_of (drop k rows)) n)) z
 
--- ---- lines at places
-pub all_get : {X : Type 0} (p : X → Bool) (xs : List X) (i : ℕ) (x : X) → list_all p xs ≡ true → i < length xs → x ≡ get_or xs i x → p x ≡ true
+-- ---- the lines of edges that were found
+pub all_get : {X : Type 0} (p : X → Bool) (xs : List (Bor X)) (i : ℕ) (x : Bor X) → list_all p (map (λ (r : Bor X). r.now) xs) ≡ true → i < length xs → x ≡ get_or xs i x → p (x.now) ≡ true
 all_get p [] i x h within is = absurd (omega arith)
-all_get p (y ∷ xs) zero x h within is = subst (λ z. p z ≡ true) (sym is) (and_parts (p y) (list_all p xs) h).0
-all_get p (y ∷ xs) (suc i) x h within is = all_get p xs i x (and_parts (p y) (list_all p xs) h).1 (omega arith) is
+all_get {X = X} p (y ∷ xs) zero x h within is = subst (λ (z : Bor X). p (z.now) ≡ true) (sym is) (and_parts (p (y.now)) (list_all p (map (λ (r : Bor X). r.now) xs)) h).0
+all_get {X = X} p (y ∷ xs) (suc i) x h within is = all_get p xs i x (and_parts (p (y.now)) (list_all p (map (λ (r : Bor X). r.now) xs)) h).1 (omega arith) is
 
-each_slot : {R : Type 0} (p : R → Bool) (slots : List (Option R)) → list_all p (rows_of slots) ≡ true → list_all (in_each_slot p) slots ≡ true
-each_slot p [] h = refl
-each_slot p (None ∷ slots) h = each_slot p slots h
-each_slot p (Some r ∷ slots) h = let both = and_parts (p r) (list_all p (rows_of slots)) h in and_from (p r) (list_all (in_each_slot p) slots) both.0 (each_slot p slots both.1)
+all_kept : {X : Type 0} (p q : X → Bool) (xs : List X) → list_all p xs ≡ true → list_all p (filter q xs) ≡ true
+all_kept p q [] h = refl
+all_kept p q (x ∷ xs) h = let both = and_parts (p x) (list_all p xs) h in by (q x) both.0 (all_kept p q xs both.1)
+  where
+    by : (b : Bool) → p x ≡ true → list_all p (filter q xs) ≡ true → list_all p (cond b (x ∷ filter q xs) (filter q xs)) ≡ true
+    by true here rest = and_from (p x) (list_all p (filter q xs)) here rest
+    by false here rest = rest
 
-proper_of : (S : Drawing) (edges : List Edge) → list_all (is_between_nodes S) edges ≡ true → list_all (λ (e : Edge). has_proper_segments e.geom) edges ≡ true
-proper_of S [] h = refl
-proper_of S (e ∷ edges) h =
-    let both = and_parts (is_between_nodes S e) (list_all (is_between_nodes S) edges) h in
-    let starts = has_point S e.start_node (first_vertex e.geom) in
-    let ends = has_point S e.end_node (last_vertex e.geom) in
-    let front = (and_parts (has_proper_segments e.geom && starts) ends both.0).0 in
-    and_from (has_proper_segments e.geom) (list_all (λ (f : Edge). has_proper_segments f.geom) edges) (and_parts (has_proper_segments e.geom) starts front).0 (proper_of S edges both.1)
+-- those of a plain drawing's edges that are found have proper lines
+pub proper_found : (t : Tables) (q : EdgeRow → Bool) (found : List EdgeRow) → IsPlain (drawn t) → found ≡ filter q t.edges → list_all has_proper_line found ≡ true
+proper_found t q found h is = ap (list_all has_proper_line) is ∙ all_kept has_proper_line q t.edges (proper_rows t h)
 
-pub proper_slots : (t : Tables) (slots : List (Option EdgeRow)) → IsPlain (drawn t) → rows_of slots ≡ t.edges → list_all (in_each_slot has_proper_line) slots ≡ true
-proper_slots t slots h e =
-    each_slot has_proper_line slots
-    (ap (list_all has_proper_line) e ∙ sym (list_all-map (λ (x : Edge). has_proper_segments x.geom) drawn_edge t.edges) ∙ proper_of (drawn t) (drawn t).edges h.lines_fit)
+-- ---- the edges at a node give its star
+leaving_of : (n : ℕ) (rows : List EdgeRow) → filter (leaves n) (flat_map both_ways (map drawn_edge rows)) ≡ flat_map (λ (r : EdgeRow). filter (leaves n) (both_ways (drawn_edge r))) rows
+leaving_of n [] = refl
+leaving_of n (r ∷ rows) =
+    filter-append (leaves n) (both_ways (drawn_edge r)) (flat_map both_ways (map drawn_edge rows))
+    ∙ ap (λ hs. filter (leaves n) (both_ways (drawn_edge r)) ++ hs) (leaving_of n rows)
+
+none_leaves : (n : ℕ) (r : EdgeRow) → is_end_of n (drawn_edge r) ≡ false → filter (leaves n) (both_ways (drawn_edge r)) ≡ []
+none_leaves n r away = by (leaves n (forward_of (drawn_edge r))) (leaves n (backward_of (drawn_edge r))) away
+  where
+    by : (b c : Bool) → (b || c) ≡ false → cond b (forward_of (drawn_edge r) ∷ cond c (backward_of (drawn_edge r) ∷ []) []) (cond c (backward_of (drawn_edge r) ∷ []) []) ≡ []
+    by true c e = absurd cc
+    by false true e = absurd cc
+    by false false e = refl
+
+pub star_at : (n : ℕ) (rows : List EdgeRow) → star (flat_map both_ways (map drawn_edge (filter (λ (r : EdgeRow). is_end_of n (drawn_edge r)) rows))) n ≡ star (flat_map both_ways (map drawn_edge rows)) n
+star_at n rows =
+    let at = filter (λ (r : EdgeRow). is_end_of n (drawn_edge r)) rows in
+    ap clockwise (leaving_of n at ∙ listed (λ (r : EdgeRow). filter (leaves n) (both_ways (drawn_edge r))) (λ (r : EdgeRow). is_end_of n (drawn_edge r)) rows (none_leaves n) ∙ sym (leaving_of n rows))
+
+pub rays_are : (t : Tables) (n : ℕ) (found seen : List EdgeRow) → found ≡ filter (λ (r : EdgeRow). is_end_of n (drawn_edge r)) t.edges → seen ≡ found
+    → rays_of (star (flat_map both_ways (map drawn_edge seen)) n) ≡ rays_at (drawn t) n
+rays_are t n found seen is same = ap (λ (rows : List EdgeRow). rays_of (star (flat_map both_ways (map drawn_edge rows)) n)) (same ∙ is) ∙ ap rays_of (star_at n t.edges)

@@ -130,7 +130,11 @@ links_writable S a b line f left right h plain some_a some_b long =
 pub links_are_right : LinksAreRight
 links_are_right = record { order = star_in_order; next = next_in_star; comes = star_with_edge; links = links_with_edge; writable = links_writable }
 
--- a star that was made is in order
+-- a star that was made has directions, and is in order
+pub some_at : {E : Type 0} (S : Drawing) (n : ℕ) (r : Result Rays E) → IfOk r (λ s. s ≡ rays_at S n) → IfOk r (λ s. All IsNotZero s.dirs) → IfOk r (λ s. HasDirections S n)
+some_at S n (Ok s) is some = subst (λ (z : Rays). All IsNotZero z.dirs) is some
+some_at S n (Err e) is some = tt
+
 pub made_in_order : {E : Type 0} (S : Drawing) (n : ℕ) (r : Result Rays E) → IsPlainInOrder S → IfOk r (λ s. s ≡ rays_at S n) → IfOk r (λ s. All IsNotZero s.dirs) → IfOk r (λ s. IsTrue (in_clockwise_order s.dirs))
 made_in_order S n (Ok s) plain is some = subst (λ (z : Rays). IsTrue (in_clockwise_order z.dirs)) (sym is) (star_in_order S n plain (subst (λ (z : Rays). All IsNotZero z.dirs) is some))
 made_in_order S n (Err e) plain is some = tt

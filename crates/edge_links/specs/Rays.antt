@@ -1,5 +1,5 @@
 -- The darts about a node, and their directions.
-use Rattle.std.specs.Prelude.{ℕ, Bool, true, List, [], map, Option, Some, None, insert, if◌then◌else◌}
+use Rattle.std.specs.Prelude.{ℕ, Bool, List, [], map, insert, if◌then◌else◌}
 use Rattle.std.specs.List.{position_or_len}
 use Rattle.topo_base.specs.declared.ids.Dart.{Dart}
 use Rattle.topo_base.specs.Point.{Point}
@@ -9,7 +9,6 @@ use Rattle.drawing.specs.Drawing.{Edge}
 use Rattle.drawing.specs.HalfEdge.{HalfEdge, dart_of, forward_of, backward_of, leaves}
 use Rattle.plane.specs.LinePoints.{has_proper_segments}
 use Rattle.drawing.specs.Star.{leaving}
-use Rattle.drawing.specs.Tables.{drawn_edge}
 
 -- darts, and the directions in which they leave, in the same order
 pub record Rays : Type 0 where
@@ -46,12 +45,3 @@ edge_between id start end line = record { edge_id = id; start_node = start; end_
 -- neighbouring vertices of an edge's line differ
 abbrev pub has_proper_line : EdgeRow → Bool
 has_proper_line e = has_proper_segments e.geom
-
--- where a place may be empty
-abbrev pub in_each_slot : {R : Type 0} → (R → Bool) → Option R → Bool
-in_each_slot p None = true
-in_each_slot p (Some r) = p r
-
-abbrev pub with_slot : ℕ → Option EdgeRow → Rays → Rays
-with_slot n None s = s
-with_slot n (Some e) s = with_both n (drawn_edge e) s

@@ -1,5 +1,7 @@
 ghost use Rattle.std.specs.Prelude.{◌≡◌, ℕ, reverse, map, flat_map, All, IfOk, OnOk, IsTrue};
 ghost use Rattle.std.specs.List.{list_all};
+ghost use Rattle.std.specs.Borrow.{Bor};
+ghost use Rattle.topo_base.specs.declared.rows.EdgeRow.{EdgeRow as EdgeValue};
 ghost use Rattle.topo_base.specs.declared.rows.NodeRow.{NodeRow as NodeValue};
 ghost use Rattle.plane.specs.Direction.{first_direction, IsNotZero};
 ghost use Rattle.drawing.specs.Drawing.{Drawing};
@@ -7,14 +9,14 @@ ghost use Rattle.drawing.specs.HalfEdge.{both_ways};
 ghost use Rattle.drawing.specs.IsoEdits.{with_edge};
 ghost use Rattle.plane.specs.LinePoints.{has_proper_segments};
 ghost use Rattle.drawing.specs.PlainInOrder.{IsPlainInOrder};
-ghost use Rattle.drawing.specs.Places.{rows_of};
 ghost use Rattle.drawing.specs.Star.{star};
 ghost use Rattle.drawing.specs.Tables.{drawn, drawn_edge};
 ghost use Rattle.plane.specs.Wedge.{in_clockwise_order};
 ghost use Rattle.edge_links.specs.LinksLaw.{HasDirections, IsComing, rays_at};
-ghost use Rattle.edge_links.specs.Rays.{edge_between, has_proper_line, in_each_slot, rays_of, with_both, with_slot};
+ghost use Rattle.edge_links.specs.Rays.{edge_between, has_proper_line, rays_of, with_both};
 
 use crate::star::Star;
+use drawing_queries::edges_at;
 use grid_angle::Dir;
 use std::alloc::Global;
 use topo_base::{Dart, EdgeId, EdgeRow, Line, Memory, NodeId};
@@ -89,39 +91,32 @@ pub fn insert_edge(
     insert_both(star, node, edge, start, end, line)
 }
 
-/// Puts the darts of the edge at one of the places that leave the node into the node's star.
-fn insert_slot(star: &mut Star, node: NodeId, slot: &Option<EdgeRow>) -> Result<(), Memory>
-    requires { IsTrue (in_each_slot has_proper_line slot.now) }
-    ensures { OnOk result (star.new ≡ with_slot node slot.now star.old) }
+/// Puts the darts of an edge that leave the node into the node's star.
+fn insert_row(star: &mut Star, node: NodeId, row: &EdgeRow) -> Result<(), Memory>
+    requires { IsTrue (has_proper_line row.now) }
+    ensures { OnOk result (star.new ≡ with_both node (drawn_edge row.now) star.old) }
 {
-    match slot {
-        None => Ok(()),
-        Some(row) => insert_both(
-            star,
-            node,
-            row.edge_id,
-            row.start_node,
-            row.end_node,
-            &row.geom,
-        ),
-    }
+    insert_both(
+        star,
+        node,
+        row.edge_id,
+        row.start_node,
+        row.end_node,
+        &row.geom,
+    )
 }
 
-/// The star of a node among the edges at these places.
-pub(crate) fn star_among(
-    alloc: Global,
-    slots: &[Option<EdgeRow>],
-    node: NodeId,
-) -> Result<Star, Memory>
-    requires { IsTrue (list_all (in_each_slot has_proper_line) slots.now) }
-    ensures star { IfOk result (λ s. s ≡ rays_of (star (flat_map both_ways (map drawn_edge (rows_of slots.now))) node)) }
+/// The star of a node among these edges.
+pub(crate) fn star_among(alloc: Global, rows: &[&EdgeRow], node: NodeId) -> Result<Star, Memory>
+    requires { IsTrue (list_all has_proper_line (map (λ (r : Bor EdgeValue). r.now) rows.now)) }
+    ensures star { IfOk result (λ s. s ≡ rays_of (star (flat_map both_ways (map drawn_edge (map (λ (r : Bor EdgeValue). r.now) rows.now))) node)) }
     ensures some { IfOk result (λ s. All IsNotZero s.dirs) }
 {
     let mut star = Star::new(alloc);
-    let mut left = slots.len();
+    let mut left = rows.len();
     while left > 0 {
         left -= 1;
-        insert_slot(&mut star, node, &slots[left])?;
+        insert_row(&mut star, node, rows[left])?;
     }
     let _ = star.dirs();
     Ok(star)
@@ -134,5 +129,6 @@ pub fn star_about(alloc: Global, tables: &Tables, node: NodeId) -> Result<Star, 
     ensures some { IfOk result (λ s. HasDirections (drawn tables.now.rows) node) }
     ensures order { IfOk result (λ s. IsTrue (in_clockwise_order s.dirs)) }
 {
-    star_among(alloc, tables.edges(), node)
+    let edges = edges_at(alloc, tables, node)?;
+    star_among(alloc, edges.rows(), node)
 }

@@ -20,7 +20,7 @@ use Rattle.drawing.specs.Writes.{all_written, edge_row_id}
 use Rattle.drawing.proofs.Members.{contains-found}
 use Rattle.plane.proofs.ListTests.{Decides-all}
 use Rattle.plane.proofs.SimpleTests.{Decides-proper, Decides-simple}
-use Rattle.edit_conditions.proofs.RowTests.{edge_found, proper_rows}
+use Rattle.drawing_queries.proofs.RowTests.{edge_found, proper_rows}
 use Rattle.face_rings.proofs.FaceBorders.{has_plain_lines}
 use Rattle.read_set.specs.Drafted.{IsDraftOf}
 use Rattle.relation_rows.proofs.KnownFeatures.{known_features}

@@ -14,7 +14,7 @@ use Rattle.drawing.specs.Rows.{row_at}
 use Rattle.drawing.specs.Edits.{split_edge}
 use Rattle.drawing.specs.Tables.{Tables, drawn, drawn_edge, tables_of}
 use Rattle.drawing.specs.Writes.{edge_row_id}
-use Rattle.edit_conditions.proofs.RowTests.{edge_found, edge_none}
+use Rattle.drawing_queries.proofs.RowTests.{edge_found, edge_none}
 use Rattle.read_set.specs.declared.end.EditEnd.{EditEnd}
 use Rattle.read_set.specs.declared.end.EditEnd.TheVariants.{Memory}
 use Rattle.read_set.specs.Edited.{AnswersOutcome}

@@ -21,7 +21,8 @@ use Rattle.drawing.specs.Writes.{all_written, face_row_id}
 use Rattle.plane.proofs.ListTests.{contains_here, contains_there}
 use Rattle.drawing.proofs.Ordering.{InOrder, first_of}
 use Rattle.drawing.proofs.TableLemmas.{drawn-tables_of}
-use Rattle.face_boxes.specs.Bounds.{grown, is_left_out, box_with, box_write, other_write, without}
+use Rattle.drawing_queries.specs.Extent.{grown, is_left_out}
+use Rattle.face_boxes.specs.Bounds.{box_with, box_write, other_write, without}
 use Rattle.topo_tables.proofs.RowChanges.{has_changed}
 
 -- ---- boxes of more points

@@ -2,7 +2,7 @@
 ghost use Rattle.std.specs.Prelude.{◌≡◌, ◌≤◌, ◌+◌, ◌++◌, map, IfOk, OnOk};
 ghost use Rattle.std.specs.List.{sum_by};
 ghost use Rattle.drawing.specs.Tables.{drawn, face_box};
-ghost use Rattle.edit_conditions.specs.Counted.{point_steps};
+ghost use Rattle.drawing_queries.specs.Counted.{point_steps};
 ghost use Rattle.face_boxes.specs.Bounds.{box_write};
 ghost use Rattle.face_merge.specs.Last.{drop_face, last_writes};
 

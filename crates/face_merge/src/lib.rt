@@ -2,7 +2,7 @@
 //! faces on its two sides become one.
 //!
 //! It stands on the links of `edge_links`, the features of `relation_rows`, the boxes of `face_boxes`, the
-//! laws on sides of `face_parts`, the conditions of `edit_conditions` and the drafts of `read_set`. It
+//! laws on sides of `face_parts`, the conditions of `drawing_queries` and the drafts of `read_set`. It
 //! promises the row writes and the reply where the edit is accepted, and else the rule that refuses it, by
 //! the rules in their order. To make a plan of the writes is left to `edit_plan`.
 #![tactic(auto)]

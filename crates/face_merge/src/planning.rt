@@ -16,7 +16,7 @@ ghost use Rattle.read_set.specs.Ready.{IsReady};
 use crate::merging::merge_faces;
 use crate::removed::Removed;
 use crate::removing::drop_from_draft;
-use edit_conditions::is_in_feature;
+use drawing_queries::is_in_feature;
 use read_set::{EditEnd, Edited, Tried, one_id};
 use relation_rows::have_same_features;
 use std::alloc::Global;

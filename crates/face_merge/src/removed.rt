@@ -3,7 +3,7 @@ ghost use Rattle.std.specs.Prelude.{◌≡◌, ◌+◌, ◌*◌, ◌≤◌, leng
 ghost use Rattle.drawing.specs.Tables.{drawn, drawn_edge};
 ghost use Rattle.face_merge.specs.Sides.{freed_if, freed_in, is_freed, is_given, removed_of};
 
-use edit_conditions::is_isolated;
+use drawing_queries::is_isolated;
 use std::sync::ledger::Ledger;
 use topo_base::{EdgeRow, FaceId, NodeId, Steps};
 use topo_tables::Tables;

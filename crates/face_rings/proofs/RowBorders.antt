@@ -1,17 +1,15 @@
 -- Borders as they are made and changed.
-use Rattle.std.proofs.Common.{◌≡◌, ℕ, zero, suc, ◌+◌, ◌<◌, ◌≤◌, refl, sym, ◌∙◌, ap, subst, arith, Bool, true, false, List, [], ◌∷◌, ◌++◌, length, map, take, drop, get_or, set, cond, Option, Some}
+use Rattle.std.proofs.Common.{◌≡◌, ℕ, zero, suc, ◌+◌, ◌<◌, ◌≤◌, refl, sym, ◌∙◌, ap, subst, arith, Bool, true, false, List, [], ◌∷◌, ◌++◌, length, map, take, drop, get_or, set, cond, Bor}
 use Rattle.std.specs.Prelude.{◌==◌, filter, flat_map}
 use Rattle.std.proofs.lemmas.Bool.{and_parts, and_from}
-use Rattle.std.proofs.lemmas.List.{append-nil, take_more, take_all, take-append-drop}
+use Rattle.std.proofs.lemmas.List.{append-nil, map-append, take_more, take_all, take-append-drop}
 use Rattle.std.proofs.lemmas.List.Concat.{flat_map-append}
 use Rattle.topo_base.specs.Darts.{same_dart}
 use Rattle.topo_base.specs.declared.ids.Dart.{Dart}
 use Rattle.topo_base.specs.declared.rows.EdgeRow.{EdgeRow}
 use Rattle.drawing.specs.Drawing.{Edge}
 use Rattle.drawing.specs.HalfEdge.{HalfEdge, forward_of, backward_of, both_ways}
-use Rattle.drawing.specs.Places.{rows_of, at_slot}
 use Rattle.drawing.specs.Tables.{edge_row}
-use Rattle.drawing.proofs.RowLemmas.{flat_map-places}
 use Rattle.face_rings.specs.declared.content.BorderDart.{BorderDart}
 use Rattle.face_rings.specs.Border.{dart_before, darts_ascend}
 use Rattle.face_rings.specs.FaceBorder.{is_beside, border_dart}
@@ -76,21 +74,30 @@ rows_are hs f (e ∷ edges) =
     sides false true h k rest hs' e = ap (λ bs. border_dart hs k ∷ bs) e
     sides false false h k rest hs' e = e
 
--- ---- the rows, one place after another
--- the next row's darts come behind those that are there
-pub row_next : (f : ℕ) (slots : List (Option EdgeRow)) (i : ℕ) (slot : Option EdgeRow) (row : EdgeRow) (content : List BorderDart) → i < length slots → slot ≡ get_or slots i slot → slot ≡ Some row → darts_ascend (rows_border f (rows_of slots)) ≡ true
-    → content ≡ flat_map (at_slot (row_border f)) (take i slots) → darts_ascend (content ++ row_border f row) ≡ true
-row_next f slots i slot row content w is some up so_far =
-    let g = at_slot (row_border f) in
-    let here : get_or slots i slot ≡ Some row = sym is ∙ some in
-    let parts : take i slots ++ Some row ∷ [] ≡ take (i + 1) slots = sym (take_more slots i slot w ∙ ap (λ s. take i slots ++ s ∷ []) here) in
-    let front : flat_map g (take (i + 1) slots) ≡ content ++ row_border f row =
-    sym (ap (flat_map g) parts) ∙ flat_map-append g (take i slots) (Some row ∷ [])
-    ∙ ap (λ bs. bs ++ (row_border f row ++ [])) (sym so_far) ∙ ap (λ bs. content ++ bs) (append-nil (row_border f row)) in
-    let rest = flat_map g (drop (i + 1) slots) in
-    let whole : rows_border f (rows_of slots) ≡ (content ++ row_border f row) ++ rest =
-    sym (flat_map-places (row_border f) slots) ∙ ap (flat_map g) (sym (take-append-drop (i + 1) slots)) ∙ flat_map-append g (take (i + 1) slots) (drop (i + 1) slots) ∙ ap (λ bs. bs ++ rest) front in
-    front_ascends (content ++ row_border f row) rest (subst (λ (bs : List BorderDart). darts_ascend bs ≡ true) whole up)
+-- ---- the rows, one after another
+-- those that are seen
+abbrev pub seen_border : ℕ → List (Bor EdgeRow) → List BorderDart
+seen_border f rows = rows_border f (map (λ (r : Bor EdgeRow). r.now) rows)
 
-pub rows_all : (f : ℕ) (slots : List (Option EdgeRow)) (i : ℕ) (content : List BorderDart) → length slots ≤ i → content ≡ flat_map (at_slot (row_border f)) (take i slots) → content ≡ rows_border f (rows_of slots)
-rows_all f slots i content h so_far = so_far ∙ ap (flat_map (at_slot (row_border f))) (take_all i slots h) ∙ flat_map-places (row_border f) slots
+seen_append : (f : ℕ) (xs ys : List (Bor EdgeRow)) → seen_border f (xs ++ ys) ≡ seen_border f xs ++ seen_border f ys
+seen_append f xs ys = ap (rows_border f) (map-append (λ (r : Bor EdgeRow). r.now) xs ys) ∙ flat_map-append (row_border f) (map (λ (r : Bor EdgeRow). r.now) xs) (map (λ (r : Bor EdgeRow). r.now) ys)
+
+-- those up to the next row
+pub row_more : (f : ℕ) (rows : List (Bor EdgeRow)) (i : ℕ) (row : Bor EdgeRow) (content : List BorderDart) → i < length rows → row ≡ get_or rows i row
+    → content ≡ seen_border f (take i rows) → content ++ row_border f row.now ≡ seen_border f (take (i + 1) rows)
+row_more f rows i row content w is so_far =
+    let parts : take (i + 1) rows ≡ take i rows ++ row ∷ [] = take_more rows i row w ∙ ap (λ r. take i rows ++ r ∷ []) (sym is) in
+    ap (λ bs. bs ++ row_border f row.now) so_far ∙ ap (λ bs. seen_border f (take i rows) ++ bs) (sym (append-nil (row_border f row.now)))
+    ∙ sym (seen_append f (take i rows) (row ∷ [])) ∙ ap (seen_border f) (sym parts)
+
+-- the next row's darts come behind those that are there
+pub row_next : (f : ℕ) (rows : List (Bor EdgeRow)) (i : ℕ) (row : Bor EdgeRow) (content : List BorderDart) → i < length rows → row ≡ get_or rows i row → darts_ascend (seen_border f rows) ≡ true
+    → content ≡ seen_border f (take i rows) → darts_ascend (content ++ row_border f row.now) ≡ true
+row_next f rows i row content w is up so_far =
+    let rest = seen_border f (drop (i + 1) rows) in
+    let whole : seen_border f rows ≡ (content ++ row_border f row.now) ++ rest =
+    ap (seen_border f) (sym (take-append-drop (i + 1) rows)) ∙ seen_append f (take (i + 1) rows) (drop (i + 1) rows) ∙ ap (λ bs. bs ++ rest) (sym (row_more f rows i row content w is so_far)) in
+    front_ascends (content ++ row_border f row.now) rest (subst (λ (bs : List BorderDart). darts_ascend bs ≡ true) whole up)
+
+pub rows_all : (f : ℕ) (rows : List (Bor EdgeRow)) (i : ℕ) (content : List BorderDart) → length rows ≤ i → content ≡ seen_border f (take i rows) → content ≡ seen_border f rows
+rows_all f rows i content h so_far = so_far ∙ ap (seen_border f) (take_all i rows h)

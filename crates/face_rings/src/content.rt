@@ -33,8 +33,9 @@ impl Model for FaceContent {
 }
 
 impl FaceContent {
-    ghost use Rattle.std.specs.Prelude.{Contains, IfOk};
-    ghost use Rattle.drawing.specs.Places.{rows_of};
+    ghost use Rattle.std.specs.Prelude.{Contains, IfOk, map};
+    ghost use Rattle.std.specs.Borrow.{Bor};
+    ghost use Rattle.topo_base.specs.declared.rows.EdgeRow.{EdgeRow as EdgeValue};
     ghost use Rattle.face_rings.specs.Border.{darts_ascend, darts_of, next_dart};
     ghost use Rattle.face_rings.specs.RowBorder.{only_if, row_border, rows_border, with_next};
 
@@ -99,20 +100,14 @@ impl FaceContent {
         self.push_if(row.right_face == face, backward)
     }
 
-    /// The border of a face, out of the rows of the edges at the places of their ids.
-    pub fn of_rows(
-        alloc: Global,
-        edges: &[Option<EdgeRow>],
-        face: FaceId,
-    ) -> Result<FaceContent, Memory>
-        requires { IsTrue (darts_ascend (rows_border face (rows_of edges.now))) }
-        ensures { IfOk result (λ content. content ≡ rows_border face (rows_of edges.now)) }
+    /// The border of a face, out of the rows of edges, which ascend by their ids.
+    pub fn of_rows(alloc: Global, edges: &[&EdgeRow], face: FaceId) -> Result<FaceContent, Memory>
+        requires { IsTrue (darts_ascend (rows_border face (map (λ (r : Bor EdgeValue). r.now) edges.now))) }
+        ensures { IfOk result (λ content. content ≡ rows_border face (map (λ (r : Bor EdgeValue). r.now) edges.now)) }
     {
         let mut content = FaceContent::new(alloc);
-        for slot in edges {
-            if let Some(row) = slot {
-                content.push_row(row, face)?;
-            }
+        for row in edges {
+            content.push_row(row, face)?;
         }
         Ok(content)
     }

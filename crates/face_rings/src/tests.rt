@@ -104,19 +104,17 @@ fn coming_edge(rt: HostRuntime) -> Result<(), Fail> {
     let mut vertices = Vec::new(rt.alloc());
     vertices.push(Grid::of(0, 0).expect(&rt, "off the grid"))?;
     vertices.push(Grid::of(3, 4).expect(&rt, "off the grid"))?;
-    let edges = vec![in rt.alloc();
-        Some(EdgeRow {
-            edge_id: EdgeId(1),
-            start_node: NodeId(1),
-            end_node: NodeId(2),
-            next_left_edge: backward(1),
-            next_right_edge: forward(1),
-            left_face: FaceId(0),
-            right_face: FaceId(0),
-            geom: Line::of(vertices).expect(&rt, "too few vertices"),
-        }),
-    ]?;
-    let mut rows = FaceContent::of_rows(rt.alloc(), &edges, FaceId(0))?;
+    let edge = EdgeRow {
+        edge_id: EdgeId(1),
+        start_node: NodeId(1),
+        end_node: NodeId(2),
+        next_left_edge: backward(1),
+        next_right_edge: forward(1),
+        left_face: FaceId(0),
+        right_face: FaceId(0),
+        geom: Line::of(vertices).expect(&rt, "too few vertices"),
+    };
+    let mut rows = FaceContent::of_rows(rt.alloc(), &[&edge], FaceId(0))?;
     assert_eq!(rt;
         rows.darts(),
         [row(forward(1), backward(1)), row(backward(1), forward(1))].as_slice()

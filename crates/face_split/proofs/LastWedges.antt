@@ -1,17 +1,17 @@
 -- The last half-edge about a node, as rows are read one after another.
-use Rattle.std.proofs.Common.{◌≡◌, ℕ, suc, ◌+◌, ◌<◌, ◌≤◌, Bool, true, false, cond, List, [], ◌∷◌, ◌++◌, length, map, filter, drop, get_or, Option, Some, None, refl, sym, ap, ◌∙◌, add-one}
+use Rattle.std.proofs.Common.{◌≡◌, ℕ, suc, ◌+◌, ◌<◌, ◌≤◌, Bool, true, false, ◌||◌, eqb, cond, Bor, List, [], ◌∷◌, ◌++◌, length, map, filter, drop, get_or, Option, Some, None, refl, sym, ap, ◌∙◌, add-one}
 use Rattle.std.specs.Prelude.{fold, flat_map, unwrap_or}
 use Rattle.std.proofs.Math.Seq.{drop-cons}
 use Rattle.std.proofs.lemmas.List.{drop_all}
 use Rattle.topo_base.specs.declared.rows.EdgeRow.{EdgeRow}
 use Rattle.topo_base.specs.declared.rows.NodeRow.{NodeRow}
 use Rattle.plane.specs.Direction.{Direction, is_nearer}
+use Rattle.drawing.specs.Drawing.{is_end_of}
 use Rattle.drawing.specs.Faces.{face_after, wedge_face}
 use Rattle.drawing.specs.HalfEdge.{HalfEdge, forward_of, backward_of, both_ways, leaves}
-use Rattle.drawing.specs.Places.{at_slot, rows_of}
 use Rattle.drawing.specs.Star.{leaving, farther_of, last_clockwise}
 use Rattle.drawing.specs.Tables.{Tables, drawn, drawn_edge}
-use Rattle.drawing.proofs.RowLemmas.{flat_map-places}
+use Rattle.drawing_queries.proofs.Listed.{listed}
 use Rattle.face_split.specs.declared.wedges.Wedge.{Wedge}
 use Rattle.face_split.specs.Wedges.{wedge_of, farther, last_with, last_from, only_if, wedges_in, wedges_at, face_of_last}
 
@@ -20,18 +20,19 @@ pub last-append : (r : Direction) (last : Option Wedge) (xs ys : List Wedge) →
 last-append r last [] ys = refl
 last-append r last (x ∷ xs) ys = last-append r (last_with r last x) xs ys
 
--- ---- the rows, one place after another
-pub next_place : (r : Direction) (n : ℕ) (slots : List (Option EdgeRow)) (i : ℕ) (slot : Option EdgeRow) (last : Option Wedge) → i < length slots → slot ≡ get_or slots i slot
-    → last_from r (last_from r last (at_slot (wedges_in n) slot)) (flat_map (at_slot (wedges_in n)) (drop (i + 1) slots)) ≡ last_from r last (flat_map (at_slot (wedges_in n)) (drop i slots))
-next_place r n slots i slot last within is =
-    let g = at_slot (wedges_in n) in
-    let here : drop i slots ≡ slot ∷ drop (i + 1) slots = drop-cons slots i slot within ∙ ap (λ s. s ∷ drop (suc i) slots) (sym is) ∙ ap (λ k. slot ∷ drop k slots) (sym (add-one i)) in
-    sym (last-append r last (g slot) (flat_map g (drop (i + 1) slots))) ∙ ap (λ ss. last_from r last (flat_map g ss)) (sym here)
+-- ---- the rows, one after another
+abbrev pub seen_wedges : ℕ → List (Bor EdgeRow) → List Wedge
+seen_wedges n rows = wedges_at n (map (λ (r : Bor EdgeRow). r.now) rows)
 
-pub all_places : (r : Direction) (n : ℕ) (slots : List (Option EdgeRow)) (i : ℕ) (last : Option Wedge) → length slots ≤ i
-    → last_from r last (flat_map (at_slot (wedges_in n)) (drop i slots)) ≡ last_from r None (flat_map (at_slot (wedges_in n)) slots) → last ≡ last_from r None (wedges_at n (rows_of slots))
-all_places r n slots i last all so_far =
-    sym (ap (λ ss. last_from r last (flat_map (at_slot (wedges_in n)) ss)) (drop_all i slots all)) ∙ so_far ∙ ap (last_from r None) (flat_map-places (wedges_in n) slots)
+pub next_row : (r : Direction) (n : ℕ) (rows : List (Bor EdgeRow)) (i : ℕ) (row : Bor EdgeRow) (last : Option Wedge) → i < length rows → row ≡ get_or rows i row
+    → last_from r (last_from r last (wedges_in n row.now)) (seen_wedges n (drop (i + 1) rows)) ≡ last_from r last (seen_wedges n (drop i rows))
+next_row r n rows i row last within is =
+    let here : drop i rows ≡ row ∷ drop (i + 1) rows = drop-cons rows i row within ∙ ap (λ s. s ∷ drop (suc i) rows) (sym is) ∙ ap (λ k. row ∷ drop k rows) (sym (add-one i)) in
+    sym (last-append r last (wedges_in n row.now) (seen_wedges n (drop (i + 1) rows))) ∙ ap (λ rs. last_from r last (seen_wedges n rs)) (sym here)
+
+pub all_rows : (r : Direction) (n : ℕ) (rows : List (Bor EdgeRow)) (i : ℕ) (last : Option Wedge) → length rows ≤ i
+    → last_from r last (seen_wedges n (drop i rows)) ≡ last_from r None (seen_wedges n rows) → last ≡ last_from r None (seen_wedges n rows)
+all_rows r n rows i last all so_far = sym (ap (λ rs. last_from r last (seen_wedges n rs)) (drop_all i rows all)) ∙ so_far
 
 -- ---- the last of half-edges
 farther_seen : (r : Direction) (h k : HalfEdge) → farther r (wedge_of h) (wedge_of k) ≡ wedge_of (farther_of r h k)
@@ -70,8 +71,18 @@ none_of : (o : Option ℕ) → ((f : ℕ) → o ≡ Some f → ⊥) → o ≡ No
 none_of None other = refl
 none_of (Some f) other = absurd (other f refl)
 
-pub face_where : (t : Tables) (edges : List EdgeRow) (node : NodeRow) (r : Direction) (face : ℕ) → ((f : ℕ) → node.containing_face ≡ Some f → ⊥)
-    → edges ≡ t.edges → face ≡ face_of_last (last_from r None (wedges_at node.node_id edges)) → face ≡ wedge_face (drawn t) node r
-face_where t edges node r face other same is =
-    is ∙ ap (λ es. face_of_last (last_from r None (wedges_at node.node_id es))) same ∙ face_seen r node.node_id t.edges
+none_at : (n : ℕ) (row : EdgeRow) → is_end_of n (drawn_edge row) ≡ false → wedges_in n row ≡ []
+none_at n row away = by (eqb row.start_node n) (eqb row.end_node n) away
+  where
+    by : (b c : Bool) → (b || c) ≡ false → only_if b (wedge_of (forward_of (drawn_edge row))) ++ only_if c (wedge_of (backward_of (drawn_edge row))) ≡ []
+    by true c e = absurd cc
+    by false true e = absurd cc
+    by false false e = refl
+
+pub face_where : (t : Tables) (found seen : List EdgeRow) (node : NodeRow) (r : Direction) (face : ℕ) → ((f : ℕ) → node.containing_face ≡ Some f → ⊥)
+    → found ≡ filter (λ (e : EdgeRow). is_end_of node.node_id (drawn_edge e)) t.edges → seen ≡ found → face ≡ face_of_last (last_from r None (wedges_at node.node_id seen)) → face ≡ wedge_face (drawn t) node r
+face_where t found seen node r face other among same is =
+    is ∙ ap (λ es. face_of_last (last_from r None (wedges_at node.node_id es))) (same ∙ among)
+    ∙ ap (λ ws. face_of_last (last_from r None ws)) (listed (wedges_in node.node_id) (λ (e : EdgeRow). is_end_of node.node_id (drawn_edge e)) t.edges (none_at node.node_id))
+    ∙ face_seen r node.node_id t.edges
     ∙ ap (λ o. unwrap_or o (face_after (last_clockwise r (filter (leaves node.node_id) (flat_map both_ways (map drawn_edge t.edges)))))) (sym (none_of node.containing_face other))

@@ -1,24 +1,37 @@
 -- The border of a face in tables whose links are right, and the dart of an edge in it.
-use Rattle.std.proofs.Common.{◌≡◌, ℕ, Bool, true, false, List, [], ◌∷◌, map, filter, cond, IsTrue, refl, sym, ap, ◌∙◌, subst, eq-eqb, ⊎_elim}
+use Rattle.std.proofs.Common.{◌≡◌, ℕ, Bool, true, false, ◌||◌, eqb, List, [], ◌∷◌, ◌++◌, map, filter, cond, IsTrue, refl, sym, ap, ◌∙◌, subst, eq-eqb, ⊎_elim}
 use Rattle.std.specs.List.{Contains, flat_map}
 use Rattle.topo_base.specs.declared.rows.EdgeRow.{EdgeRow}
 use Rattle.plane.proofs.ListTests.{contains_here, contains_there, contains_cases, contains_none}
 use Rattle.drawing.specs.Drawing.{Drawing, Edge}
 use Rattle.drawing.specs.HalfEdge.{HalfEdge, both_ways, dart_of, forward_of, backward_of, half_edges}
 use Rattle.drawing.specs.Ring.{ring_of as the_ring_of}
-use Rattle.drawing.specs.Tables.{Tables, drawn}
+use Rattle.drawing.specs.Tables.{Tables, drawn, drawn_edge, has_side}
+use Rattle.drawing_queries.proofs.Listed.{listed}
 use Rattle.face_rings.specs.Border.{are_linked, darts_ascend, darts_of}
 use Rattle.face_rings.specs.FaceBorder.{border_dart, face_border, is_beside}
 use Rattle.face_rings.specs.Rings.{ring_of}
-use Rattle.face_rings.specs.RowBorder.{rows_border}
+use Rattle.face_rings.specs.RowBorder.{backward_dart, forward_dart, only_if, row_border, rows_border}
 use Rattle.face_rings.proofs.FaceBorders.{rings_are_right}
 use Rattle.face_split.specs.Linked.{IsEdgeBeside, IsLinked}
 
-pub border_is : (t : Tables) (rows : List EdgeRow) (f : ℕ) → rows ≡ t.edges → IsLinked t → rows_border f rows ≡ face_border (half_edges (drawn t)) f
-border_is t rows f is h = ap (rows_border f) (is ∙ h.edges) ∙ rings_are_right.rows (drawn t) f
+-- the edges beside the face give its border
+none_beside : (f : ℕ) (r : EdgeRow) → has_side f (drawn_edge r) ≡ false → row_border f r ≡ []
+none_beside f r away = by (eqb r.left_face f) (eqb r.right_face f) away
+  where
+    by : (b c : Bool) → (b || c) ≡ false → only_if b (forward_dart r) ++ only_if c (backward_dart r) ≡ []
+    by true c e = absurd cc
+    by false true e = absurd cc
+    by false false e = refl
 
-pub border_ascends : (t : Tables) (rows : List EdgeRow) (f : ℕ) → rows ≡ t.edges → IsLinked t → IsTrue (darts_ascend (rows_border f rows))
-border_ascends t rows f is h = ap darts_ascend (border_is t rows f is h) ∙ rings_are_right.ascend (drawn t) f h.ringed.rings
+pub border_is : (t : Tables) (found seen : List EdgeRow) (f : ℕ) → found ≡ filter (λ (r : EdgeRow). has_side f (drawn_edge r)) t.edges → seen ≡ found → IsLinked t
+    → rows_border f seen ≡ face_border (half_edges (drawn t)) f
+border_is t found seen f is same h =
+    ap (rows_border f) (same ∙ is) ∙ listed (row_border f) (λ (r : EdgeRow). has_side f (drawn_edge r)) t.edges (none_beside f) ∙ ap (rows_border f) h.edges ∙ rings_are_right.rows (drawn t) f
+
+pub border_ascends : (t : Tables) (found seen : List EdgeRow) (f : ℕ) → found ≡ filter (λ (r : EdgeRow). has_side f (drawn_edge r)) t.edges → seen ≡ found → IsLinked t
+    → IsTrue (darts_ascend (rows_border f seen))
+border_ascends t found seen f is same h = ap darts_ascend (border_is t found seen f is same h) ∙ rings_are_right.ascend (drawn t) f h.ringed.rings
 
 pub border_linked : (t : Tables) (f : ℕ) → IsLinked t → IsTrue (are_linked (face_border (half_edges (drawn t)) f))
 border_linked t f h = rings_are_right.linked (drawn t) f h.ringed.rings

@@ -15,7 +15,7 @@ ghost use Rattle.face_split.specs.Closing.{with_edge_in};
 use crate::adding::add_to_draft;
 use crate::finishing::finish;
 use crate::wedges::face_at_start;
-use edit_conditions::{goes_between, is_line_blocked};
+use drawing_queries::{goes_between, is_line_blocked};
 use grid_lines::is_simple;
 use read_set::{EditEnd, Edited, Tried};
 use std::alloc::Global;
@@ -81,7 +81,7 @@ pub fn add_edge<L: Ledger>(
     if is_line_blocked(tables, line, steps) {
         return Err(EditEnd::Refused(Rule::LineBlocked));
     }
-    let face = face_at_start(tables, first, line);
+    let face = face_at_start(alloc, tables, first, line)?;
     let tried = with_edge(alloc, tables, first, last, line, face, both, steps)?;
     Ok(tried.into_edited())
 }

@@ -7,6 +7,7 @@ ghost use Rattle.drawing.specs.Tables.{drawn};
 ghost use Rattle.face_rings.specs.FaceBorder.{face_border};
 ghost use Rattle.face_split.specs.Linked.{HasEdgeBeside, IsEdgeBeside, IsLinked};
 
+use drawing_queries::edges_beside;
 use face_rings::{FaceContent, ring_of};
 use std::alloc::Global;
 use topo_base::{Dart, EdgeId, FaceId, Memory};
@@ -32,7 +33,8 @@ pub fn ring_at(
     ensures ring { (e : Edge) → IsEdgeBeside (drawn tables.now.rows) edge face e
         → IfOk result (λ r. r.ring.items ≡ map dart_of (the_ring_of (half_edges (drawn tables.now.rows)) (forward_of e))) }
 {
-    let border = FaceContent::of_rows(alloc, tables.edges(), face)?;
+    let edges = edges_beside(alloc, tables, face)?;
+    let border = FaceContent::of_rows(alloc, edges.rows(), face)?;
     let forward = true;
     let ring = ring_of(alloc, &border, Dart { edge, forward })?;
     Ok(EdgeRing { border, ring })

@@ -21,7 +21,10 @@ fn isolated_nodes(rt: HostRuntime) -> Result<(), Fail> {
             containing_face,
             geom,
         };
-        assert_eq!(rt; face_at_node(&tables, &node, Dir::up()).0, face);
+        assert_eq!(rt;
+            face_at_node(rt.alloc(), &tables, &node, Dir::up())?.0,
+            face
+        );
     }
     let node = NodeRow {
         node_id: NodeId(2),
@@ -29,7 +32,7 @@ fn isolated_nodes(rt: HostRuntime) -> Result<(), Fail> {
         geom,
     };
     let line = Line::of(vec![in rt.alloc(); geom, end]?).expect(&rt, "too few vertices");
-    assert_eq!(rt; face_at_start(&tables, &node, &line).0, 7);
+    assert_eq!(rt; face_at_start(rt.alloc(), &tables, &node, &line)?.0, 7);
     Ok(())
 }
 
@@ -69,13 +72,11 @@ fn three_edges(rt: HostRuntime) -> Result<(), Fail> {
     let up = Grid::of(0, 9).expect(&rt, "off the grid");
     let right = Grid::of(9, 0).expect(&rt, "off the grid");
     let down = Grid::of(0, -9).expect(&rt, "off the grid");
-    let edges = vec![in alloc;
-        Some(edge(1, (1, 2), (3, 4), line(&rt, alloc, middle, up)?)),
-        None,
-        Some(edge(3, (3, 1), (5, 4), line(&rt, alloc, right, middle)?)),
-        Some(edge(4, (1, 4), (5, 3), line(&rt, alloc, middle, down)?)),
-        Some(edge(5, (2, 3), (6, 4), line(&rt, alloc, up, right)?)),
-    ]?;
+    let first = edge(1, (1, 2), (3, 4), line(&rt, alloc, middle, up)?);
+    let second = edge(3, (3, 1), (5, 4), line(&rt, alloc, right, middle)?);
+    let third = edge(4, (1, 4), (5, 3), line(&rt, alloc, middle, down)?);
+    let apart = edge(5, (2, 3), (6, 4), line(&rt, alloc, up, right)?);
+    let edges = [&first, &second, &third, &apart];
     for (dx, dy, face) in [(1, 1, 4), (2, -1, 5), (1, -7, 5), (-1, 0, 3)] {
         let way = Dir::of(dx, dy).expect(&rt, "a direction");
         assert_eq!(rt; face_among(way, NodeId(1), &edges).0, face, "at {dx} {dy}");

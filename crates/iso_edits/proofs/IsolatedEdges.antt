@@ -28,7 +28,7 @@ use Rattle.face_boxes.specs.Bounds.{box_with, box_write, other_write, without}
 use Rattle.face_boxes.proofs.Boxes.{boxed, boxed_there, box_written, other_written, boxes_come, boxes_go, can_box, can_other}
 use Rattle.iso_edits.proofs.IsolatedNodes.{face_there}
 use Rattle.iso_edits.proofs.IsolatedLinks.{rows_comes, rows_goes}
-use Rattle.edit_conditions.proofs.IsolatedTests.{found_id, found_there}
+use Rattle.drawing_queries.proofs.IsolatedTests.{found_id, found_there}
 use Rattle.plane.proofs.ListTests.{contains_cases, contains_none}
 use Rattle.drawing.proofs.Members.{contains-found, pairwise-same, ids_differ}
 use Rattle.drawing.proofs.Ordering.{InOrder}

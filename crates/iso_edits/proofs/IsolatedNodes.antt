@@ -20,7 +20,7 @@ use Rattle.drawing.specs.Tables.{tables_of, face_row}
 use Rattle.drawing.specs.Writable.{has_face_row}
 use Rattle.drawing.specs.Writes.{face_row_id}
 use Rattle.read_set.specs.Plans.{IsPlanFor}
-use Rattle.edit_conditions.proofs.IsolatedTests.{found_id, found_there}
+use Rattle.drawing_queries.proofs.IsolatedTests.{found_id, found_there}
 
 -- a face that is listed has its row
 pub has_face_row_is : (S : Drawing) (fs : List ℕ) (f : ℕ) → has_row face_row_id (map (face_row S) fs) f ≡ list_any (λ g. g == f) fs

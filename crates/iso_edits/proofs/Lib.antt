@@ -3,4 +3,3 @@ pub mod KnownFaces
 pub mod IsolatedNodes
 pub mod IsolatedLinks
 pub mod IsolatedEdges
-pub mod Locating

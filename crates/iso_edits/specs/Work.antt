@@ -1,14 +1,10 @@
 -- How many steps the isolated edits take at most.
-use Rattle.std.specs.Prelude.{ℕ, ◌+◌, ◌*◌, ◌/◌, length}
+use Rattle.std.specs.Prelude.{ℕ, ◌+◌, ◌*◌, length}
 use Rattle.std.specs.List.{sum_by}
 use Rattle.topo_base.specs.declared.edit.Edit.{Edit}
 use Rattle.topo_base.specs.declared.edit.Edit.TheVariants.{AddIsoNode, MoveIsoNode, RemoveIsoNode, AddIsoEdge, RemoveIsoEdge}
 use Rattle.drawing.specs.Tables.{Tables}
-use Rattle.edit_conditions.specs.Counted.{point_steps, all_point_steps, all_line_steps}
-
--- the face of a point: a walk over the edges for every 4096 faces, and a look at each of these
-abbrev pub face_steps : Tables → ℕ
-face_steps t = (t.next_ids.face / 4096 + 1) * (sum_by point_steps t.edges + 4096)
+use Rattle.drawing_queries.specs.Counted.{point_steps, all_point_steps, all_line_steps, face_steps}
 
 -- an edit
 abbrev pub most_steps : Tables → Edit → ℕ

@@ -9,11 +9,11 @@ ghost use Rattle.drawing.specs.Step.{step};
 ghost use Rattle.read_set.specs.Edited.{AnswersOutcome};
 ghost use Rattle.read_set.specs.Kept.{Keeps};
 ghost use Rattle.read_set.specs.Ready.{IsReady};
-ghost use Rattle.edit_conditions.specs.Counted.{point_steps};
+ghost use Rattle.drawing_queries.specs.Counted.{point_steps};
 ghost use Rattle.iso_edits.specs.Work.{most_steps};
 
 use crate::writing::{Bounded, coming_edge, going_edge};
-use edit_conditions::{
+use drawing_queries::{
     goes_between, is_in_feature, is_isolated, is_isolated_edge, is_line_blocked, is_same_face,
     is_same_node,
 };

@@ -1,15 +1,13 @@
 //! The edits of isolated nodes and isolated edges, after ST_AddIsoNode, ST_MoveIsoNode,
 //! ST_RemoveIsoNode, ST_AddIsoEdge and ST_RemoveIsoEdge of SQL/MM Topo-Geo.
 //!
-//! It stands on the tables of `topo_tables`, the answers of `read_set`, the conditions of
-//! `edit_conditions`, the tests of `grid_lines` and the crossings of `grid_rays`. It promises the row writes
-//! and the ids of the edit where it is accepted on the tables, and else the rule that refuses it, by the rules in
-//! their order. The face of a point is the least one, other than face 0, that has an odd number of border segments
-//! above it. To make a plan is left to `edit_plan`, and to make the writes to whoever keeps the tables.
+//! It stands on the tables of `topo_tables`, the answers of `read_set`, the queries of `drawing_queries`, the
+//! tests of `grid_lines` and the boxes of `face_boxes`. It promises the row writes and the ids of the edit where
+//! it is accepted on the tables, and else the rule that refuses it, by the rules in their order. To make a plan
+//! is left to `edit_plan`, and to make the writes to whoever keeps the tables.
 #![tactic(auto)]
 
 mod edges;
-mod location;
 mod nodes;
 mod writing;
 

@@ -10,10 +10,9 @@ ghost use Rattle.read_set.specs.Kept.{Keeps};
 ghost use Rattle.read_set.specs.Ready.{IsReady};
 ghost use Rattle.iso_edits.specs.Work.{most_steps};
 
-use crate::location::face_at;
 use crate::writing::edited_by;
-use edit_conditions::{
-    accepts_face, is_blocked, is_blocked_for, is_given_face, is_in_feature, is_isolated,
+use drawing_queries::{
+    accepts_face, face_at, is_blocked, is_blocked_for, is_given_face, is_in_feature, is_isolated,
     is_same_face,
 };
 use read_set::{EditEnd, Edited};

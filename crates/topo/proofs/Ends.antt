@@ -50,7 +50,7 @@ memory_grown : (history : List Entry) (o : Option Edit) → history ≡ grown hi
 memory_grown history None = refl
 memory_grown history (Some e) = sym (append-nil history)
 
-behind_none : (s : Standing) (ls : List ScriptLine) → standing_behind s ls [] ≡ s
+pub behind_none : (s : Standing) (ls : List ScriptLine) → standing_behind s ls [] ≡ s
 behind_none s [] = refl
 behind_none s (l ∷ ls) = refl
 

@@ -23,9 +23,12 @@ use Rattle.script_model.specs.NamedRange.{is_script_line}
 use Rattle.history_model.specs.Run.{AreRight, entries_of, later_front, is_done}
 use Rattle.topo_model.specs.ScriptRun.{onto_edits, edits_given, onto_answers, answers_given}
 use Rattle.history_model.proofs.CoreRunning.{legal-push}
+use Rattle.history_model.proofs.Running.{none_right}
 use Rattle.topo_model.proofs.Resolving.{edit_limits, good_edit}
+use Rattle.topo_model.proofs.ScriptRunning.{no_answers}
 use Rattle.topo_desk.specs.Verdict.{verdict, verdict_of, IsTried, history_after}
 use Rattle.topo.specs.Run.{Standing, opening, edit_at, entry, IsEditTried, IsLineTried, grown, standing_after, standing_behind, AreTried, IsRightRun}
+use Rattle.topo.proofs.Ends.{behind_none}
 use Rattle.topo.proofs.SoundHistories.{sound_history}
 
 -- ---- one answer
@@ -113,25 +116,13 @@ pub record RightBehind (m : Bounds) (s : Standing) (ls : List ScriptLine) (given
   pub legal : IsTrue (is_legal m.max_id m.max_journal (standing_behind s ls given).history)
   pub right : (seen : ℕ) → seen ≤ length s.history → AreRight m (standing_behind s ls given).history 1 seen (edits_given s.names ls given) (answers_given s.names ls given)
 
-none_right : (m : Bounds) (history : List Entry) (seen : ℕ) (es : List Edit) → AreRight m history 1 seen es []
-none_right m history seen [] = tt
-none_right m history seen (e ∷ es) = tt
-
 no_entries : (es : List Edit) → entries_of 1 es [] ≡ []
 no_entries [] = refl
 no_entries (e ∷ es) = refl
 
-no_answers : (b : Names) (ls : List ScriptLine) → answers_given b ls [] ≡ []
-no_answers b [] = refl
-no_answers b (l ∷ ls) = refl
-
 no_edits : (b : Names) (ls : List ScriptLine) → edits_given b ls [] ≡ []
 no_edits b [] = refl
 no_edits b (l ∷ ls) = refl
-
-behind_none : (s : Standing) (ls : List ScriptLine) → standing_behind s ls [] ≡ s
-behind_none s [] = refl
-behind_none s (l ∷ ls) = refl
 
 right_none : (m : Bounds) (s : Standing) (ls : List ScriptLine) → IsTrue (is_legal m.max_id m.max_journal s.history) → RightBehind m s ls []
 right_none m s ls legal =

@@ -18,6 +18,7 @@ use Rattle.topo_journal.specs.Entries.{spellings}
 use Rattle.topo_disk.specs.Disk.{LeavesOnly}
 use Rattle.topo_journal.specs.Kept.{AreBytes, Each, StandsDoubting, gate_behind}
 use Rattle.topo_journal.proofs.Created.{not_yet_stands, short_not_yet, shut_not_yet}
+use Rattle.topo_journal.proofs.EntryJournals.{good_bad, history_is}
 use Rattle.topo_journal.proofs.Headers.{closed_long}
 use Rattle.topo_journal.proofs.Parsed.{adoptable}
 use Rattle.topo_desk.specs.Doubt.{may_be_in_doubt}
@@ -31,12 +32,6 @@ every before body = true
 none_spelled : (ys : List Entry) → spellings ys ≡ [] → ys ≡ []
 none_spelled [] e = refl
 none_spelled (y ∷ ys) e = absurd (cc e)
-
-history_is : {a b : List (List ℕ)} → History a ≡ History b → a ≡ b
-history_is e = cc e
-
-good_bad : {bodies : List (List ℕ)} {p : ℕ} → History bodies ≡ Bad p → ⊥
-good_bad e = cc e
 
 module _ (m : Bounds) (small : m.max_journal < 2 ^ 32) where
   yet_stands : (xs : List Entry) (c : List ℕ) → IsNoJournalYet c → is_not_yet c ≡ true → Stands every c (spellings xs) → StandsFor m c xs

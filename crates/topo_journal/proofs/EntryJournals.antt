@@ -26,21 +26,21 @@ headed_read : (legal : Legal) (bytes rest : List ℕ) → IsHeaded bytes rest �
 headed_read legal bytes rest head some = ap (read legal) head.laid ∙ behind_header legal head.format rest head.not_later some
 
 -- an open header is no closed one
-open_yet : (bytes : List ℕ) → 1 < length bytes → slice_index bytes 0 ≡ 1 → IsNoJournalYet bytes → ⊥
+pub open_yet : (bytes : List ℕ) → 1 < length bytes → slice_index bytes 0 ≡ 1 → IsNoJournalYet bytes → ⊥
 open_yet bytes long one (inl short) = absurd (omega arith)
 open_yet [] long one (inr w) = absurd w.1
 open_yet (b ∷ bytes) long one (inr w) = w.1 one
 
-head_long : (bytes rest : List ℕ) → IsHeaded bytes rest → rest ≢ [] → 7 < length bytes
+pub head_long : (bytes rest : List ℕ) → IsHeaded bytes rest → rest ≢ [] → 7 < length bytes
 head_long bytes rest head other = omega (arith, ap length head.laid, not_empty rest other)
 
-head_named : (bytes rest : List ℕ) → IsHeaded bytes rest → has_name bytes ≡ true
+pub head_named : (bytes rest : List ℕ) → IsHeaded bytes rest → has_name bytes ≡ true
 head_named bytes rest head = ap has_name head.laid ∙ other_format head.format head.not_later
   where
     other_format : (format : ℕ) → format ≢ 2 → has_name (1 ∷ (codes "TOPOJ" ++ format ∷ rest)) ≡ true
     other_format format other = grind (arith, nat_tests)
 
-laid : (h a b c d e f g : ℕ) (rest : List ℕ) → h ≡ 1 → a ≡ 84 → b ≡ 79 → c ≡ 80 → d ≡ 79 → e ≡ 74 → h ∷ a ∷ b ∷ c ∷ d ∷ e ∷ f ∷ g ∷ rest ≡ 1 ∷ (codes "TOPOJ" ++ f ∷ g ∷ rest)
+pub laid : (h a b c d e f g : ℕ) (rest : List ℕ) → h ≡ 1 → a ≡ 84 → b ≡ 79 → c ≡ 80 → d ≡ 79 → e ≡ 74 → h ∷ a ∷ b ∷ c ∷ d ∷ e ∷ f ∷ g ∷ rest ≡ 1 ∷ (codes "TOPOJ" ++ f ∷ g ∷ rest)
 laid h a b c d e f g rest h1 a1 b1 c1 d1 e1 = rw (h1, a1, b1, c1, d1, e1) refl
 
 -- the three kinds of bytes
@@ -79,13 +79,13 @@ shape legal bytes = elim (cases_lt 1 (length bytes)) [
   ]
 ]
 
-history_is : {a b : List (List ℕ)} → History a ≡ History b → a ≡ b
+pub history_is : {a b : List (List ℕ)} → History a ≡ History b → a ≡ b
 history_is e = cc e
 
 bad_is : {p q : ℕ} → Bad p ≡ Bad q → p ≡ q
 bad_is e = cc e
 
-good_bad : {bodies : List (List ℕ)} {p : ℕ} → History bodies ≡ Bad p → ⊥
+pub good_bad : {bodies : List (List ℕ)} {p : ℕ} → History bodies ≡ Bad p → ⊥
 good_bad e = cc e
 
 module _ (m : Bounds) (legal : Legal) (small : m.max_journal < 2 ^ 32) (tests : TestsEntries m legal) where

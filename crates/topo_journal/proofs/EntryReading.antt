@@ -16,6 +16,7 @@ use Rattle.drawing.specs.InRange.{is_spelled}
 use Rattle.history_model.specs.Spelling.{number_bytes, entry_bytes}
 use Rattle.history_model.specs.Answers.{Bounds}
 use Rattle.history_model.specs.Journal.{IsFramed, next_gate, may_stand, AreEntries, IsBadGate, IsBadAfter}
+use Rattle.history_model.proofs.Running.{edits_of-append}
 use Rattle.topo_journal.specs.Bytes.{Legal, Follow, AreLegal, number, frame, frames, Reading, History, Bad, read_gates}
 use Rattle.topo_journal.specs.Kept.{AreBytes, gate_behind}
 use Rattle.topo_journal.specs.Entries.{spellings, AreSpelled}
@@ -24,10 +25,6 @@ use Rattle.topo_journal.proofs.Reading.{number-bytes, closed_gate, open_gate}
 use Rattle.topo_journal.proofs.Parsed.{bytes-number, tail_bytes, short_bad, bad_zero, bad_none}
 use Rattle.topo_journal.proofs.Scans.{grown}
 use Rattle.topo_journal.proofs.EntryFrames.{number_size}
-
-edits_of-append : (S : Drawing) (front rest : List Entry) → after_all S (edits_of (front ++ rest)) ≡ after_all (after_all S (edits_of front)) (edits_of rest)
-edits_of-append S [] rest = refl
-edits_of-append S (x ∷ front) rest = edits_of-append (after S x.edit) front rest
 
 pick : (g : ℕ) (s t : Bool) (X B H : Reading) → g ≡ 1
     → ((s ≡ true) × (t ≡ true) × ((if g == 1 then (if s && t then X else B) else H) ≡ X)) ⊎ (((s && t) ≡ false) × ((if g == 1 then (if s && t then X else B) else H) ≡ B))

@@ -14,7 +14,7 @@ use Rattle.topo_model.proofs.Resolving.{edits_limits}
 use Rattle.history_model.proofs.Running.{runs_right, replay_step}
 
 -- ---- the answers to the edits that were given
-no_answers : (b : Names) (ls : List ScriptLine) → answers_given b ls [] ≡ []
+pub no_answers : (b : Names) (ls : List ScriptLine) → answers_given b ls [] ≡ []
 no_answers b [] = refl
 no_answers b (l ∷ ls) = refl
 

@@ -8,6 +8,7 @@ use Rattle.history_model.specs.Journal.{AreEntries, IsClosed, IsNoJournalYet, St
 use Rattle.topo_journal.specs.Bytes.{Legal, Stands, Reading, History, Bad, number, read_gates, read, is_not_yet}
 use Rattle.topo_journal.specs.Kept.{start_of}
 use Rattle.topo_journal.specs.Plain.{has_name}
+use Rattle.topo_journal.proofs.EntryJournals.{good_bad}
 use Rattle.topo_journal.proofs.Created.{not_yet_stands, short_not_yet, shut_not_yet}
 use Rattle.topo_journal.proofs.Parsed.{short_bad, bad_zero, bad_none}
 use Rattle.topo_journal.proofs.Headers.{closed_long, open_named, open_unnamed, open_short}
@@ -40,9 +41,6 @@ refused false X B = refl
 open_bad : (steps : ℕ) (before : List (List ℕ)) (p a b c d : ℕ) (rest : List ℕ) → read_gates never (suc steps) before p (1 ∷ a ∷ b ∷ c ∷ d ∷ rest) ≡ Bad p
 unfolding read_gates
 open_bad steps before p a b c d rest = refused (nat_lt (number a b c d) (length rest)) _ (Bad p)
-
-good_bad : {bodies : List (List ℕ)} {p : ℕ} → History bodies ≡ Bad p → ⊥
-good_bad e = cc e
 
 open_gate_bad : (steps : ℕ) (before : List (List ℕ)) (p g : ℕ) (rest : List ℕ) → g ≡ 1 → read_gates never (suc steps) before p (g ∷ rest) ≡ Bad p
 open_gate_bad steps before p g [] one = short_bad never steps before p g [] one (omega arith)

@@ -17,6 +17,7 @@ use Rattle.history_model.specs.Answers.{Bounds}
 use Rattle.history_model.specs.Run.{is_done}
 use Rattle.history_model.specs.Journal.{IsFramed, next_gate, may_stand, AreEntries, IsBadAfter, IsClosed, StandsFor, IsBadAt}
 use Rattle.history_model.proofs.Fronts.{number_front}
+use Rattle.history_model.proofs.Running.{edits_of-append}
 use Rattle.history_model.proofs.Spellings.{entry_front}
 use Rattle.entry_codec.proofs.Lengths.{short_entry}
 use Rattle.topo_journal.specs.Bytes.{frame, frames, opening}
@@ -34,10 +35,6 @@ use Rattle.topo_recover.specs.Reached.{IsReadTo}
 pub journal_more : (xs : List Entry) (x : Entry) → journal_length (xs ++ x ∷ []) ≡ journal_length xs + (5 + length (entry_bytes x))
 journal_more [] x = refl
 journal_more (y ∷ xs) x = omega (arith, journal_more xs x)
-
-edits_of-append : (S : Drawing) (front rest : List Entry) → after_all S (edits_of (front ++ rest)) ≡ after_all (after_all S (edits_of front)) (edits_of rest)
-edits_of-append S [] rest = refl
-edits_of-append S (x ∷ front) rest = edits_of-append (after S x.edit) front rest
 
 then_after : (xs : List Entry) (x : Entry) → after (replay xs) x.edit ≡ replay (xs ++ x ∷ [])
 then_after xs x = sym (edits_of-append nothing_drawn xs (x ∷ []))

@@ -6,6 +6,7 @@ use Rattle.history_model.specs.Answers.{Bounds}
 use Rattle.history_model.specs.Journal.{IsHeaded, IsNoJournalYet, IsBadAt}
 use Rattle.topo_journal.specs.Bytes.{opening}
 use Rattle.topo_journal.specs.Plain.{has_name}
+use Rattle.topo_journal.proofs.EntryJournals.{head_long, head_named, laid, open_yet}
 use Rattle.topo_journal.proofs.Parsed.{named}
 use Rattle.topo_journal.proofs.Headers.{eight}
 use Rattle.topo_recover.specs.Reached.{IsReadTo}
@@ -15,22 +16,7 @@ pub shut_yet : (bytes : List ℕ) → 1 < length bytes → length bytes ≤ 8 �
 shut_yet [] long few shut = absurd (omega arith)
 shut_yet (b ∷ bytes) long few shut = inr (few, shut)
 
-open_yet : (bytes : List ℕ) → 1 < length bytes → slice_index bytes 0 ≡ 1 → IsNoJournalYet bytes → ⊥
-open_yet bytes long one (inl short) = absurd (omega arith)
-open_yet [] long one (inr w) = absurd w.1
-open_yet (b ∷ bytes) long one (inr w) = w.1 one
-
 -- ---- neither
-head_long : (bytes rest : List ℕ) → IsHeaded bytes rest → rest ≢ [] → 7 < length bytes
-head_long bytes [] head other = absurd (other refl)
-head_long bytes (b ∷ rest) head other = omega (arith, ap length head.laid)
-
-head_named : (bytes rest : List ℕ) → IsHeaded bytes rest → has_name bytes ≡ true
-head_named bytes rest head = ap has_name head.laid ∙ other_format head.format head.not_later
-  where
-    other_format : (format : ℕ) → format ≢ 2 → has_name (1 ∷ (codes "TOPOJ" ++ format ∷ rest)) ≡ true
-    other_format format other = grind (arith, nat_tests)
-
 pub headed_not_yet : (bytes rest : List ℕ) → IsHeaded bytes rest → rest ≢ [] → IsNoJournalYet bytes → ⊥
 headed_not_yet bytes rest head other yet =
     let long = head_long bytes rest head other in
@@ -50,9 +36,6 @@ pub bad_name : (m : Bounds) (bytes : List ℕ) → 7 < length bytes → slice_in
 bad_name m bytes long one name = inl (open_yet bytes (omega (arith, long)) one, refl, λ rest head other. true≢false (sym (head_named bytes rest head) ∙ name))
 
 -- ---- a journal
-laid : (h a b c d e f g : ℕ) (rest : List ℕ) → h ≡ 1 → a ≡ 84 → b ≡ 79 → c ≡ 80 → d ≡ 79 → e ≡ 74 → h ∷ a ∷ b ∷ c ∷ d ∷ e ∷ f ∷ g ∷ rest ≡ 1 ∷ (codes "TOPOJ" ++ f ∷ g ∷ rest)
-laid h a b c d e f g rest h1 a1 b1 c1 d1 e1 = rw (h1, a1, b1, c1, d1, e1) refl
-
 seven : (h a b c d e f : ℕ) → h ≡ 1 → a ≡ 84 → b ≡ 79 → c ≡ 80 → d ≡ 79 → e ≡ 74 → h ∷ a ∷ b ∷ c ∷ d ∷ e ∷ f ∷ [] ≡ opening f
 seven h a b c d e f h1 a1 b1 c1 d1 e1 = rw (h1, a1, b1, c1, d1, e1) refl
 

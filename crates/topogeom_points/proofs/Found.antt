@@ -2,7 +2,7 @@
 use Rattle.std.proofs.Common.{◌≡◌, ◌∙◌, sym, ap, Option, Some, Bor, IsTrue, ℕ, List, subst}
 use Rattle.std.specs.Option.{option_copied}
 use Rattle.drawing.specs.Rows.{row_at, has_row}
-use Rattle.edit_conditions.proofs.IsolatedTests.{found_id, found_there}
+use Rattle.drawing_queries.proofs.IsolatedTests.{found_id, found_there}
 
 -- the row that was found, among the rows of the tables
 pub found_row : {R : Type 0} (id : R → ℕ) (found : Option (Bor R)) (row : Bor R) (there rows : List R) (n : ℕ) → found ≡ Some row → option_copied found ≡ row_at id there n → there ≡ rows → row_at id rows n ≡ Some (row.now)

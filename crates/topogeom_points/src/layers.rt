@@ -13,7 +13,7 @@ ghost use Rattle.read_set.specs.Kept.{Keeps};
 ghost use Rattle.topogeom_points.specs.Rows.{IsThereIfGiven};
 ghost use Rattle.read_set.specs.Ready.{IsReady};
 
-use edit_conditions::{RowTest, any_row};
+use drawing_queries::{RowTest, any_row};
 use read_set::{EditEnd, Edited};
 use std::alloc::Global;
 use std::sync::ledger::Ledger;

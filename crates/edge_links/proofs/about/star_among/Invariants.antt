@@ -7,8 +7,8 @@ use Rattle.edge_links.proofs.about.star_among.Given as goal
 -- the star is that of the edges from this place on
 abbrev pub invariant-loop-left : goal.invariant-loop-left
 invariant-loop-left l = record {
-  within : l.left ≤ length l.slots;
-  seen : l.star ≡ rays_of (star (half_edges_of (drop l.left l.slots)) l.node);
+  within : l.left ≤ length l.rows;
+  seen : l.star ≡ rays_of (star (half_edges_of (drop l.left l.rows)) l.node);
 }
 
 abbrev pub decreases-loop-left : goal.decreases-loop-left

@@ -6,7 +6,7 @@ use Rattle.drawing.specs.Drawing.{edge_at}
 use Rattle.drawing.specs.Edits.{merged, remove_edge}
 use Rattle.drawing.specs.Outcome.{Outcome}
 use Rattle.drawing.specs.Tables.{Tables, drawn, drawn_edge}
-use Rattle.edit_conditions.proofs.RowTests.{edge_found, edge_none}
+use Rattle.drawing_queries.proofs.RowTests.{edge_found, edge_none}
 use Rattle.read_set.specs.Plans.{AreWritesOf}
 use Rattle.face_merge.proofs.Answering.{faces_joined, found_there, refused_between, refused_listed, refused_unknown, edit_of, step_of}
 use Rattle.read_set.proofs.Keeping.{answer_keeps}

@@ -11,7 +11,7 @@ use Rattle.iso_edits.proofs.IsolatedEdges.{edge_goes, edge_goes_where, gone_writ
 use Rattle.iso_edits.proofs.Answering.{answers_with}
 use Rattle.face_boxes.specs.Bounds.{box_write, other_write, without}
 use Rattle.iso_edits.proofs.KnownFaces.{knows_faces, edge_faces, ends_there}
-use Rattle.edit_conditions.proofs.RowTests.{edge_found, edge_none}
+use Rattle.drawing_queries.proofs.RowTests.{edge_found, edge_none}
 use Rattle.read_set.proofs.Keeping.{answer_keeps}
 use Rattle.iso_edits.proofs.edges.remove_iso_edge.Goals as goal
 

@@ -1,0 +1,4 @@
+pub mod RowTests
+pub mod IsolatedTests
+pub mod Locating
+pub mod Listed

@@ -1,0 +1,3 @@
+pub mod Counted
+pub mod Location
+pub mod Extent

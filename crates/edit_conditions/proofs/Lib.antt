@@ -1,2 +1,0 @@
-pub mod RowTests
-pub mod IsolatedTests
