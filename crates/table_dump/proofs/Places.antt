@@ -1,12 +1,10 @@
--- What the readers of rows find behind the last word, and the last relation row.
-use Rattle.std.proofs.Common.{◌≡◌, ℕ, zero, suc, ◌+◌, ◌-◌, ◌≤◌, false, ◌&&◌, List, [], ◌∷◌, length, slice_get, Option, Some, None, refl, sym, ap, ◌∙◌, arith}
+-- What the readers of rows find behind the last word.
+use Rattle.std.proofs.Common.{◌≡◌, ℕ, ◌≤◌, false, ◌&&◌, List, [], ◌∷◌, length, None, refl, sym, ap, ◌∙◌, arith}
 use Rattle.std.specs.Prelude.{codes}
 use Rattle.std.specs.Str.{bytes_eq}
-use Rattle.topo_base.specs.declared.rows.RelationRow.{RelationRow}
 use Rattle.table_dump.specs.Lines.{words_of, words_behind}
 use Rattle.table_dump.specs.Words.{whole}
 use Rattle.table_dump.specs.Rows.{is_universal}
-use Rattle.table_dump.specs.Steps.{last_relation}
 use Rattle.table_dump.proofs.Lines.{words_not_none}
 
 none_whole : {A : Type 0} (x : A) (ws : List (List ℕ)) → (ws ≡ [] → ⊥) → whole (x, ws) ≡ None
@@ -37,18 +35,3 @@ just_two words a b (c ∷ cs) one e f h = absurd (omega arith)
 
 pub one_only : (words : List (List ℕ)) (a one : List ℕ) → words ≡ a ∷ words_behind one → words_behind one ≡ [] → false ≡ is_universal words
 one_only words a one e f = sym (ap is_universal (e ∙ ap (λ ws. a ∷ ws) f))
-
--- ---- the last row
-last_at : (low : Option RelationRow) (rows : List RelationRow) (row : RelationRow) (k : ℕ) → k + 1 ≡ length rows → Some row ≡ slice_get rows k → last_relation low rows ≡ Some row
-last_at low [] row k size e = absurd (omega arith)
-last_at low (a ∷ []) row zero size e = sym e
-last_at low (a ∷ []) row (suc k) size e = absurd (omega arith)
-last_at low (a ∷ b ∷ rows) row zero size e = absurd (omega arith)
-last_at low (a ∷ b ∷ rows) row (suc k) size e = last_at (Some a) (b ∷ rows) row k (omega arith) e
-
-none_there : (row : RelationRow) (k : ℕ) → Some row ≡ slice_get [] k → ⊥
-none_there row k e = cc
-
-pub last_is : (rows : List RelationRow) (row : RelationRow) → Some row ≡ slice_get rows (length rows - 1) → last_relation None rows ≡ Some row
-last_is [] row e = absurd (none_there row 0 e)
-last_is (a ∷ rows) row e = last_at None (a ∷ rows) row (length (a ∷ rows) - 1) (omega arith) e

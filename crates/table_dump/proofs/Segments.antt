@@ -14,9 +14,11 @@ use Rattle.topo_base.specs.declared.rows.Counters.{Counters}
 use Rattle.validate_topology.specs.Ascending.{numbers_ascend, last_number}
 use Rattle.validate_topology.specs.declared.raw.RawTables.{RawTables}
 use Rattle.validate_topology.proofs.Ascending.{ascend_push, last_push}
-use Rattle.table_dump.specs.Dump.{is_counters, is_node_row, is_edge_row, is_face_row, is_layer_row, is_feature_row, is_relation_row, AreRows, comes_behind, relations_ascend, IsDumped}
+use Rattle.validate_topology.specs.RelationOrder.{comes_behind, last_relation, relations_ascend}
+use Rattle.validate_topology.proofs.RelationOrder.{relations_push}
+use Rattle.table_dump.specs.Dump.{is_counters, is_node_row, is_edge_row, is_face_row, is_layer_row, is_feature_row, is_relation_row, AreRows, IsDumped}
 use Rattle.table_dump.specs.Rows.{DumpRow, Node, Edge, Universal, Face, Layer, Feature, Relation}
-use Rattle.table_dump.specs.Steps.{Front, begun, is_none, last_relation, may_follow, with_row}
+use Rattle.table_dump.specs.Steps.{Front, begun, is_none, may_follow, with_row}
 use Rattle.table_dump.proofs.RowLaws.{is_row}
 use Rattle.table_dump.proofs.Follow.{Follow, reach}
 
@@ -179,12 +181,6 @@ pushed R good number xs x h g b =
       range = list_all-append good xs (x ∷ []) ∙ and_from (list_all good xs) (good x && true) h.range (and_from (good x) true g refl);
       ascend = ascend_push number 0 xs x h.ascend b;
     }
-
-relations_push : (low : Option RelationRow) (xs : List RelationRow) (x : RelationRow) → IsTrue (relations_ascend low xs) → IsTrue (comes_behind (last_relation low xs) x) → IsTrue (relations_ascend low (xs ++ x ∷ []))
-relations_push low [] x h k = and_from (comes_behind low x) true k refl
-relations_push low (y ∷ ys) x h k =
-    let here = and_parts (comes_behind low y) (relations_ascend (Some y) ys) h in
-    and_from (comes_behind low y) (relations_ascend (Some y) (ys ++ x ∷ [])) here.0 (relations_push (Some y) ys x here.1 k)
 
 from_none : (A : Type 0) (xs : List A) → IsTrue (is_none xs) → xs ≡ []
 from_none A [] h = refl

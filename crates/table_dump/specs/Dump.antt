@@ -1,5 +1,5 @@
 -- A dump: the printed text of raw tables whose numbers are in range and whose rows ascend.
-use Rattle.std.specs.Prelude.{◌≡◌, ℕ, ◌+◌, Bool, true, false, ◌&&◌, IsTrue, nat_le, int_le, List, [], ◌∷◌, length, take, Option, Some, None}
+use Rattle.std.specs.Prelude.{◌≡◌, ℕ, ◌+◌, Bool, true, false, ◌&&◌, IsTrue, nat_le, int_le, List, length, take, Option, Some, None}
 use Rattle.std.specs.List.{list_all}
 use Rattle.topo_base.specs.Names.{is_name}
 use Rattle.topo_base.specs.Point.{Point}
@@ -13,10 +13,10 @@ use Rattle.topo_base.specs.declared.rows.FeatureRow.{FeatureRow}
 use Rattle.topo_base.specs.declared.rows.RelationRow.{RelationRow}
 use Rattle.topo_base.specs.declared.rows.Counters.{Counters}
 use Rattle.drawing.specs.InRange.{is_grid_point}
-use Rattle.drawing.specs.Relations.{row_before}
 use Rattle.script_model.specs.Texts.{rows_text}
 use Rattle.validate_topology.specs.Ascending.{numbers_ascend}
 use Rattle.validate_topology.specs.Raw.{tables_in}
+use Rattle.validate_topology.specs.RelationOrder.{relations_ascend}
 use Rattle.validate_topology.specs.declared.raw.RawTables.{RawTables}
 use Rattle.table_dump.specs.Lines.{lines_of}
 
@@ -86,15 +86,6 @@ is_relation_row r = is_named r.topogeo_id && (is_named r.layer_id && (is_named r
 pub record AreRows {R : Type 0} (good : R → Bool) (number : R → ℕ) (rows : List R) : Type 0 where
   pub range : IsTrue (list_all good rows)
   pub ascend : IsTrue (numbers_ascend number 0 rows)
-
--- relation rows ascend by feature, then type, then element
-abbrev pub comes_behind : Option RelationRow → RelationRow → Bool
-comes_behind None row = true
-comes_behind (Some before) row = row_before before row
-
-abbrev pub relations_ascend : Option RelationRow → List RelationRow → Bool
-relations_ascend before [] = true
-relations_ascend before (row ∷ rows) = comes_behind before row && relations_ascend (Some row) rows
 
 -- tables of which there is a dump
 pub record IsDumped (r : RawTables) : Type 0 where

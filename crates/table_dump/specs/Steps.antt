@@ -5,11 +5,11 @@ use Rattle.topo_base.specs.declared.rows.EdgeRow.{EdgeRow}
 use Rattle.topo_base.specs.declared.rows.FaceRow.{FaceRow}
 use Rattle.topo_base.specs.declared.rows.LayerRow.{LayerRow}
 use Rattle.topo_base.specs.declared.rows.FeatureRow.{FeatureRow}
-use Rattle.topo_base.specs.declared.rows.RelationRow.{RelationRow}
 use Rattle.topo_base.specs.declared.rows.Counters.{Counters}
 use Rattle.validate_topology.specs.Ascending.{last_number}
+use Rattle.validate_topology.specs.Raw.{no_rows}
+use Rattle.validate_topology.specs.RelationOrder.{comes_behind, last_relation}
 use Rattle.validate_topology.specs.declared.raw.RawTables.{RawTables}
-use Rattle.table_dump.specs.Dump.{comes_behind}
 use Rattle.table_dump.specs.Rows.{DumpRow, Node, Edge, Universal, Face, Layer, Feature, Relation}
 use Rattle.table_dump.specs.declared.ends.LineEnd.{LineEnd}
 use Rattle.table_dump.specs.declared.ends.LineEnd.TheVariants.{Bad, Memory}
@@ -19,25 +19,17 @@ abbrev pub is_none : {A : Type 0} → List A → Bool
 is_none [] = true
 is_none (x ∷ xs) = false
 
-abbrev pub last_relation : Option RelationRow → List RelationRow → Option RelationRow
-last_relation before [] = before
-last_relation before (row ∷ rows) = last_relation (Some row) rows
-
 -- the tables so far, and whether face 0 was there
 pub record Front : Type 0 where
   pub raw : RawTables
   pub has_face_0 : Bool
 
 abbrev pub front_of : Reading → Front
-front_of r = record { raw = record (r.raw) { relations = r.relations.items }; has_face_0 = r.has_face_0 }
+front_of r = record { raw = r.raw; has_face_0 = r.has_face_0 }
 
 -- behind the first line
 abbrev pub begun : Counters → Front
-begun next =
-    record {
-      raw = record { next = next; nodes = []; edges = []; faces = []; layers = []; features = []; relations = [] };
-      has_face_0 = false;
-    }
+begun next = record { raw = no_rows next; has_face_0 = false }
 
 -- nodes come before edges, these before face 0, and this before the other faces, layers, features and relation rows; rows of
 -- a kind ascend

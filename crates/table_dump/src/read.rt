@@ -1,11 +1,9 @@
 // The lines of a dump in their order.
-ghost use Rattle.std.specs.Prelude.{◌≡◌, ◌&&◌, ℕ, List, Some, None, Err, IfOk};
-ghost use Rattle.topo_base.specs.declared.rows.RelationRow.{RelationRow as RelationValue};
-ghost use Rattle.table_dump.specs.Dump.{IsDump, IsFirstBad, comes_behind};
-ghost use Rattle.drawing.specs.Relations.{row_before};
+ghost use Rattle.std.specs.Prelude.{◌≡◌, ◌&&◌, ℕ, Some, Err, IfOk};
+ghost use Rattle.table_dump.specs.Dump.{IsDump, IsFirstBad};
 ghost use Rattle.table_dump.specs.Lines.{words_of, words_behind};
 ghost use Rattle.table_dump.specs.Rows.{Node, Edge, Universal, Layer, Feature, Relation, alone_as, node_at, edge_at, face_in, layer_at, feature_at, relation_at, named_row, row_in};
-ghost use Rattle.table_dump.specs.Steps.{Pushes, Puts, begun, front_of, is_none, last_relation};
+ghost use Rattle.table_dump.specs.Steps.{Pushes, Puts, begun, front_of, is_none};
 
 use crate::ends::LineEnd;
 use crate::pieces::{first_line, front_word};
@@ -14,8 +12,8 @@ use crate::rows::{
     relation_row,
 };
 use std::alloc::Global;
-use topo_base::{Counters, FaceId, Memory, NodeId, NodeRow, RelationRow};
-use validate_topology::{RawTables, RelationRows, Rows};
+use topo_base::{Counters, FaceId, Memory, NodeId, NodeRow};
+use validate_topology::{RawTables, Rows};
 
 /// Why a dump isn't read.
 #[derive(Clone, Copy, Debug, PartialEq, Eq)]
@@ -27,11 +25,10 @@ pub enum DumpEnd {
     Memory,
 }
 
-/// What was read of a dump so far. The relation rows are put into the tables at its end.
+/// What was read of a dump so far.
 #[derive(Drop)]
 struct Reading {
     raw: RawTables,
-    relations: Vec<RelationRow>,
     has_face_0: bool,
 }
 
@@ -60,40 +57,6 @@ fn push_node(nodes: &mut Rows<NodeRow>, fields: NodeFields) -> Result<bool, Memo
             geom: fields.geom,
         }),
     }
-}
-
-/// Whether a row comes before another: by feature, then by type, then by element.
-fn comes_before(a: &RelationRow, b: &RelationRow) -> bool
-    ensures { result ≡ row_before a.now b.now }
-{
-    if a.topogeo_id.0 < b.topogeo_id.0 {
-        return true;
-    }
-    if a.topogeo_id.0 == b.topogeo_id.0 && a.element_type < b.element_type {
-        return true;
-    }
-    a.topogeo_id.0 == b.topogeo_id.0
-        && a.element_type == b.element_type
-        && a.element_id < b.element_id
-}
-
-/// Whether a relation row stands behind the others.
-fn stands_behind(rows: &[RelationRow], row: &RelationRow) -> bool
-    ensures { result ≡ comes_behind (last_relation None rows.now) row.now }
-{
-    match rows.last() {
-        None => true,
-        Some(last) => comes_before(last, row),
-    }
-}
-
-/// The relation rows in their order.
-fn relation_rows(alloc: Global, rows: &[RelationRow]) -> Result<RelationRows, Memory> {
-    let mut relations = RelationRows::new(alloc);
-    for row in rows {
-        relations.push(*row)?;
-    }
-    Ok(relations)
 }
 
 impl Reading {
@@ -159,12 +122,12 @@ impl Reading {
 
     /// Whether face 0 was there, and neither layers nor features nor relation rows.
     fn may_have_faces(&self) -> bool
-        ensures { result ≡ (self.now.has_face_0 && (is_none self.now.raw.layers && (is_none self.now.raw.features && is_none self.now.relations.items))) }
+        ensures { result ≡ (self.now.has_face_0 && (is_none self.now.raw.layers && (is_none self.now.raw.features && is_none self.now.raw.relations))) }
     {
         self.has_face_0
             && is_none(self.raw.layers.rows())
             && is_none(self.raw.features.rows())
-            && is_none(&self.relations)
+            && is_none(self.raw.relations.rows())
     }
 
     fn read_layer(&mut self, alloc: Global, words: &[u8]) -> Result<(), LineEnd>
@@ -174,7 +137,10 @@ impl Reading {
             Ok(row) => row,
             Err(end) => return Err(end),
         };
-        if !self.has_face_0 || !is_none(self.raw.features.rows()) || !is_none(&self.relations) {
+        if !self.has_face_0
+            || !is_none(self.raw.features.rows())
+            || !is_none(self.raw.relations.rows())
+        {
             return Err(LineEnd::Bad);
         }
         if self.raw.layers.push(row)? {
@@ -188,7 +154,7 @@ impl Reading {
         ensures { Puts (alone_as Feature feature_at (words_behind words.now)) (front_of self.old) (front_of self.new) result }
     {
         let row = feature_row(words)?;
-        if !self.has_face_0 || !is_none(&self.relations) {
+        if !self.has_face_0 || !is_none(self.raw.relations.rows()) {
             return Err(LineEnd::Bad);
         }
         if self.raw.features.push(row)? {
@@ -202,11 +168,14 @@ impl Reading {
         ensures { Puts (alone_as Relation relation_at (words_behind words.now)) (front_of self.old) (front_of self.new) result }
     {
         let row = relation_row(words)?;
-        if !self.has_face_0 || !stands_behind(&self.relations, &row) {
+        if !self.has_face_0 {
             return Err(LineEnd::Bad);
         }
-        self.relations.push(row)?;
-        Ok(())
+        if self.raw.relations.push(row)? {
+            Ok(())
+        } else {
+            Err(LineEnd::Bad)
+        }
     }
 
     /// Reads the row whose line has this first word.
@@ -239,16 +208,6 @@ impl Reading {
         let (first, words) = front_word(line);
         self.read_row(alloc, first, words)
     }
-
-    /// The tables that were read.
-    fn tables(self, alloc: Global) -> Result<RawTables, Memory>
-        ensures { IfOk result (λ r. record r { relations = self.relations.items } ≡ (front_of self).raw) }
-    {
-        let relations = relation_rows(alloc, &self.relations)?;
-        let mut raw = self.raw;
-        raw.relations = relations;
-        Ok(raw)
-    }
 }
 
 /// What was read behind the first line: the next ids, and no rows.
@@ -256,23 +215,14 @@ fn begin(alloc: Global, next: Counters) -> Reading
     ensures { front_of result ≡ begun next }
 {
     Reading {
-        raw: RawTables {
-            next,
-            nodes: Rows::new(alloc),
-            edges: Rows::new(alloc),
-            faces: Rows::new(alloc),
-            layers: Rows::new(alloc),
-            features: Rows::new(alloc),
-            relations: RelationRows::new(alloc),
-        },
-        relations: Vec::new(alloc),
+        raw: RawTables::new(alloc, next),
         has_face_0: false,
     }
 }
 
 /// The tables of a dump, or its first bad line.
 pub fn read_tables(alloc: Global, text: &[u8]) -> Result<RawTables, DumpEnd>
-    ensures dump { IfOk result (λ r. (rows : List RelationValue) × IsDump text.now (record r { relations = rows })) }
+    ensures dump { IfOk result (IsDump text.now) }
     ensures bad { (n : ℕ) → result ≡ Err (DumpEnd.BadLine n) → IsFirstBad text.now n }
 {
     if text.is_empty() {
@@ -299,8 +249,5 @@ pub fn read_tables(alloc: Global, text: &[u8]) -> Result<RawTables, DumpEnd>
     if !reading.has_face_0 {
         return Err(DumpEnd::BadLine { line: line + 1 });
     }
-    match reading.tables(alloc) {
-        Ok(raw) => Ok(raw),
-        Err(_) => Err(DumpEnd::Memory),
-    }
+    Ok(reading.raw)
 }

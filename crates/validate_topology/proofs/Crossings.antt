@@ -1,5 +1,5 @@
 -- What two pieces have in common, and how far they reach.
-use Rattle.std.proofs.Common.{◌≡◌, ◌≢◌, ◌∙◌, ◌⊎◌, inl, inr, ⊎_elim, ◌↔◌, ℤ, ◌≤ℤ◌, Bool, true, false, not, ◌&&◌, ◌||◌, IsTrue, [], ◌∷◌, refl, sym, ap, subst}
+use Rattle.std.proofs.Common.{◌≡◌, ◌∙◌, inl, inr, ⊎_elim, ◌↔◌, ◌≤ℤ◌, Bool, true, false, not, ◌&&◌, IsTrue, [], ◌∷◌, refl, sym, ap, subst}
 use Rattle.std.specs.Int.{int_min, int_max}
 use Rattle.std.specs.Prelude.{int_le}
 use Rattle.std.specs.Bool.{Decides}
@@ -7,11 +7,10 @@ use Rattle.std.proofs.lemmas.Bool.{and_parts, false≢true}
 use Rattle.std.proofs.lemmas.Bool.Decides.{Decides-and, Decides-or, Decides-not, Decides-like, same_from_decides}
 use Rattle.topo_base.specs.Point.{Point, same_point}
 use Rattle.topo_base.specs.RationalPoint.{RationalPoint, rational, IsAt}
-use Rattle.topo_base.specs.declared.meeting.Meeting.TheVariants.{Apart, AtEnds, Inside}
-use Rattle.plane.specs.Segment.{Segment, on_segment, touches, is_beside, intervals_meet}
+use Rattle.topo_base.specs.declared.meeting.Meeting.TheVariants.{Inside}
+use Rattle.plane.specs.Segment.{Segment, on_segment, is_beside, intervals_meet}
 use Rattle.plane.specs.Line.{is_line_end}
-use Rattle.plane.specs.LinePoints.{IsAtLineEnd}
-use Rattle.plane.specs.Relation.{IsOnlyShared, AreApart, HaveMore, HaveOne, SameCoordinates, IsEndPoint}
+use Rattle.plane.specs.Relation.{IsOnlyShared, AreApart, HaveMore, HaveOne, SameCoordinates}
 use Rattle.plane.specs.RationalTests.{IsOn}
 use Rattle.plane.proofs.Collinear.{at_point}
 use Rattle.plane.proofs.Relations.{same_end, on_end, joined}

@@ -5,9 +5,16 @@ pub mod InOrder
 pub mod LeastBoxes
 pub mod Lookups
 pub mod Marked
+pub mod NextPlaces
 pub mod PieceConflicts
 pub mod PieceOrder
 pub mod Plain
+pub mod PlainEdges
 pub mod Pushing
+pub mod RelationOrder
+pub mod SideDirections
+pub mod SpokeOrder
+pub mod SpokePlaces
 pub mod Staging
+pub mod StarTurning
 pub mod Sweeping

@@ -1,11 +1,10 @@
 -- Values that stand by the ids of rows, where the one of an id is set.
-use Rattle.std.proofs.Common.{◌≡◌, ◌≢◌, ◌∙◌, ℕ, zero, suc, ◌+◌, ◌<◌, ◌≤◌, Bool, true, false, ◌||◌, ◌==◌, cond, if◌then◌else◌, IsTrue, List, [], ◌∷◌, ◌++◌, length, map, take, get_or, flat_map, replicate, Option, Some, None, refl, sym, ap, subst, arith}
-use Rattle.std.specs.Prelude.{nat_lt, slice_get, slice_set, option_and_then}
-use Rattle.std.specs.List.{list_any}
-use Rattle.std.proofs.lemmas.Bool.{and_parts, ne_eqb, eq-eqb, eqb-true, false≢true}
+use Rattle.std.proofs.Common.{◌≡◌, ◌∙◌, ℕ, zero, suc, ◌+◌, ◌<◌, ◌≤◌, Bool, true, false, ◌==◌, cond, if◌then◌else◌, IsTrue, List, [], ◌∷◌, ◌++◌, length, map, take, get_or, flat_map, Some, None, refl, sym, ap, arith}
+use Rattle.std.specs.Prelude.{nat_lt, slice_get, slice_set}
+use Rattle.std.proofs.lemmas.Bool.{and_parts, ne_eqb, eq-eqb, eqb-true}
 use Rattle.std.proofs.lemmas.Bool.Decides.{Decides-eqb, Decides-like, same_from_decides}
 use Rattle.std.proofs.lemmas.Option.{slice_get-get_or}
-use Rattle.std.proofs.lemmas.List.{get_or-map, map-append, take_more, append-nil}
+use Rattle.std.proofs.lemmas.List.{get_or-map, take_more, append-nil}
 use Rattle.std.proofs.lemmas.List.Concat.{flat_map-append}
 use Rattle.drawing.specs.Rows.{row_at}
 use Rattle.plane.proofs.ListTests.{some_same}

@@ -1,14 +1,12 @@
 -- Conflicts of pieces are those of the rows that they belong to.
-use Rattle.std.proofs.Common.{◌≡◌, ◌≢◌, ◌∙◌, ◌⊎◌, inl, inr, ⊎_elim, ◌↔◌, ℕ, ◌<◌, ◌≤◌, min, max, Bool, true, false, IsTrue, List, [], ◌∷◌, ◌++◌, map, flat_map, refl, sym, ap, subst, arith}
+use Rattle.std.proofs.Common.{◌≡◌, ◌≢◌, ◌∙◌, ◌⊎◌, inl, inr, ⊎_elim, ◌↔◌, ℕ, ◌<◌, ◌≤◌, min, max, Bool, true, false, List, [], ◌∷◌, map, flat_map, refl, sym, ap, subst, arith}
 use Rattle.std.specs.Prelude.{Contains}
 use Rattle.std.proofs.lemmas.Bool.{cases_lt, false≢true}
 use Rattle.std.proofs.lemmas.List.Elements.{Contains-append_left, Contains-append_right, Contains-append_cases}
-use Rattle.topo_base.specs.Point.{Point, same_point}
-use Rattle.topo_base.specs.RationalPoint.{RationalPoint, rational}
 use Rattle.topo_base.specs.declared.rows.NodeRow.{NodeRow}
 use Rattle.topo_base.specs.declared.rows.EdgeRow.{EdgeRow}
 use Rattle.plane.specs.Segment.{Segment}
-use Rattle.plane.specs.Line.{segments_of, first_vertex, last_vertex}
+use Rattle.plane.specs.Line.{segments_of}
 use Rattle.plane.proofs.ListTests.{contains_none, contains_cases, contains_here, contains_there}
 use Rattle.drawing.proofs.Members.{contains-map, contains-mapped}
 use Rattle.validate_topology.specs.Conflicts.{AreCoincident, AreCrossing, IsConflictOf, IsNodeInside}

@@ -1,5 +1,5 @@
 -- Pieces that are sorted by where they begin.
-use Rattle.std.proofs.Common.{◌≡◌, ◌∙◌, ⊎_elim, ◌↔◌, ℕ, zero, suc, ◌+◌, ◌<◌, ◌≤◌, ℤ, ◌≤ℤ◌, ◌<ℤ◌, cond, true, false, List, [], ◌∷◌, ◌++◌, append_assoc, append-nil, drop, length, map, get_or, refl, sym, ap, subst, arith, int_lt}
+use Rattle.std.proofs.Common.{◌≡◌, ◌∙◌, ⊎_elim, ◌↔◌, ℕ, zero, suc, ◌+◌, ◌<◌, ◌≤◌, ℤ, ◌≤ℤ◌, ◌<ℤ◌, cond, false, List, [], ◌∷◌, ◌++◌, append_assoc, append-nil, drop, length, map, get_or, refl, sym, ap, subst, arith, int_lt}
 use Rattle.std.specs.Prelude.{Contains}
 use Rattle.std.specs.Cmp.{int_cmp_total}
 use Rattle.std.specs.Ordering.{int_cmp, is_lt}
@@ -16,8 +16,7 @@ use Rattle.plane.proofs.ListTests.{contains_there}
 use Rattle.plane.proofs.PointTests.{Decides-int_lt}
 use Rattle.plane.proofs.Signs.{order}
 use Rattle.grid_lines.proofs.Vertices.{segment_is, segments_end}
-use Rattle.validate_topology.specs.Pieces.{AreInOrder, edge_piece, edge_pieces, left_of}
-use Rattle.validate_topology.specs.declared.pieces.Ends.{Ends}
+use Rattle.validate_topology.specs.Pieces.{AreInOrder, edge_piece, left_of}
 use Rattle.validate_topology.specs.declared.pieces.Owner.TheVariants.{Edge}
 use Rattle.validate_topology.specs.declared.pieces.Piece.{Piece}
 

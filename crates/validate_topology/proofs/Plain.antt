@@ -1,5 +1,5 @@
 -- Tables without lines on points and lines stand for a plain drawing.
-use Rattle.std.proofs.Common.{◌≡◌, ◌≢◌, ◌∙◌, ◌⊎◌, inl, inr, ⊎_elim, ℕ, ◌<◌, ◌≤◌, zero, suc, Bool, true, false, not, ◌&&◌, ◌||◌, ◌==◌, cond, IsTrue, List, [], ◌∷◌, ◌++◌, map, flat_map, length, get_or, Option, Some, None, refl, sym, ap, subst, arith}
+use Rattle.std.proofs.Common.{◌≡◌, ◌≢◌, ◌∙◌, ◌⊎◌, inl, inr, ⊎_elim, ℕ, ◌<◌, ◌≤◌, Bool, true, false, not, ◌&&◌, ◌||◌, ◌==◌, cond, IsTrue, List, [], ◌∷◌, ◌++◌, map, flat_map, Some, refl, sym, ap, subst, arith}
 use Rattle.std.specs.Prelude.{Contains, nat_lt}
 use Rattle.std.specs.List.{list_all, list_any}
 use Rattle.std.proofs.lemmas.Bool.{and_parts, and_from, cases_lt, eq-eqb, eqb-true, false≢true, or_left, or_right, ltb-true}
@@ -14,23 +14,22 @@ use Rattle.plane.specs.Relation.{SameCoordinates}
 use Rattle.plane.specs.RationalTests.{IsOnLine}
 use Rattle.plane.specs.SimpleLine.{IsSimpleLine}
 use Rattle.plane.proofs.Collinear.{at_point}
-use Rattle.plane.proofs.ListTests.{contains_here, contains_there, contains_cases, contains_none, some_same}
+use Rattle.plane.proofs.ListTests.{contains_here, contains_there, contains_cases, contains_none}
 use Rattle.plane.proofs.Middle.{at_or_not}
 use Rattle.plane.proofs.PointTests.{Decides-same_point}
 use Rattle.plane.proofs.Relations.{same_end}
 use Rattle.plane.proofs.SimpleTests.{Decides-simple}
-use Rattle.drawing.specs.Drawing.{Drawing, Edge, is_end_of, node_id_of}
+use Rattle.drawing.specs.Drawing.{Edge, is_end_of, node_id_of}
 use Rattle.drawing.specs.Plain.{IsPlain, has_point as draws_point, is_between_nodes, nodes_differ}
 use Rattle.drawing.specs.Rows.{row_at}
 use Rattle.drawing.specs.Tables.{Tables, drawn, drawn_edge}
 use Rattle.drawing.proofs.Members.{contains-mapped}
 use Rattle.grid_lines.proofs.Links.{at_moved}
 use Rattle.validate_topology.specs.Ascending.{numbers_ascend}
-use Rattle.validate_topology.specs.Conflicts.{AreCoincident, AreCrossing, IsNodeInside}
+use Rattle.validate_topology.specs.Conflicts.{AreCrossing, IsNodeInside}
 use Rattle.validate_topology.specs.OnlyIf.{only_if}
 use Rattle.validate_topology.specs.PlainLines.{HasPlainLines, coincident, crossed_edge, crossed_node, ends_mismatched, has_point, is_at, not_simple, starts_mismatched}
 use Rattle.validate_topology.specs.declared.pairs.IdPair.{IdPair}
-use Rattle.validate_topology.specs.declared.lines.ReportLine.{ReportLine}
 use Rattle.validate_topology.specs.declared.lines.ReportLine.TheVariants.{EdgeStartMismatch, EdgeEndMismatch, EdgeNotSimple}
 use Rattle.validate_topology.proofs.Sweeping.{same_turned}
 
@@ -38,11 +37,11 @@ use Rattle.validate_topology.proofs.Sweeping.{same_turned}
 no_cons : {A : Type 0} (x : A) (xs : List A) → [] ≡ x ∷ xs → ⊥
 no_cons x xs e = absurd cc
 
-first_none : {A : Type 0} (xs ys : List A) → [] ≡ xs ++ ys → xs ≡ []
+pub first_none : {A : Type 0} (xs ys : List A) → [] ≡ xs ++ ys → xs ≡ []
 first_none [] ys e = refl
 first_none (x ∷ xs) ys e = absurd (no_cons x (xs ++ ys) e)
 
-second_none : {A : Type 0} (xs ys : List A) → [] ≡ xs ++ ys → [] ≡ ys
+pub second_none : {A : Type 0} (xs ys : List A) → [] ≡ xs ++ ys → [] ≡ ys
 second_none [] ys e = e
 second_none (x ∷ xs) ys e = absurd (no_cons x (xs ++ ys) e)
 

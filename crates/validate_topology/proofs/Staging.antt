@@ -7,7 +7,8 @@ use Rattle.drawing.specs.Plain.{IsPlain}
 use Rattle.drawing.specs.Tables.{Tables, drawn, drawn_edge}
 use Rattle.validate_topology.specs.Ascending.{numbers_ascend}
 use Rattle.validate_topology.specs.BoxLines.{HasPlaceLines, least_of, wrong_boxes}
-use Rattle.validate_topology.specs.LinkLines.{HasLinkLines, has_edge, nodes_isolated, nodes_joined}
+use Rattle.validate_topology.specs.Following.{half_edges_of}
+use Rattle.validate_topology.specs.LinkLines.{HasLinkLines, has_edge, lefts_wrong, nodes_isolated, nodes_joined, rights_wrong}
 use Rattle.validate_topology.specs.OnlyIf.{is_empty}
 use Rattle.validate_topology.specs.Stages.{IsReport}
 use Rattle.validate_topology.specs.Stages.IsReport.{on_references, on_points, on_faces}
@@ -24,12 +25,14 @@ emptied b lines is e = none_there lines (sym is ∙ e)
 pub none_put : (old new lines : List ReportLine) → old ≡ [] → new ≡ [] → new ≡ old ++ lines → lines ≡ []
 none_put old new lines none also is = (λ i. sym none i ++ lines) ∙ sym is ∙ also
 
-pub has_links : (t : Tables) (old lines : List ReportLine) (edges : List EdgeRow) (links : List ReportLine) → old ≡ [] → edges ≡ t.edges
-    → lines ≡ old ++ nodes_joined (has_edge (map drawn_edge edges)) t.nodes ++ nodes_isolated (has_edge (map drawn_edge edges)) t.nodes ++ links → HasLinkLines t lines
-has_links t old lines edges links none same is = record {
-  links = links;
-  all = is ∙ (λ i. none i ++ nodes_joined (has_edge (map drawn_edge (same i))) t.nodes ++ nodes_isolated (has_edge (map drawn_edge (same i))) t.nodes ++ links);
-}
+pub has_links : (t : Tables) (old lines : List ReportLine) (edges : List EdgeRow) → old ≡ [] → edges ≡ t.edges
+    → lines
+    ≡ old ++ nodes_joined (has_edge (map drawn_edge edges)) t.nodes ++ nodes_isolated (has_edge (map drawn_edge edges)) t.nodes ++ lefts_wrong (half_edges_of edges) edges ++ rights_wrong (half_edges_of edges) edges
+    → HasLinkLines t lines
+has_links t old lines edges none same is = is
+    ∙ (λ i.
+    let rows = same i in
+    none i ++ nodes_joined (has_edge (map drawn_edge rows)) t.nodes ++ nodes_isolated (has_edge (map drawn_edge rows)) t.nodes ++ lefts_wrong (half_edges_of rows) rows ++ rights_wrong (half_edges_of rows) rows)
 
 pub has_places : (t : Tables) (lines : List ReportLine) (edges : List EdgeRow) (places : List ReportLine) → edges ≡ t.edges
     → lines ≡ places ++ wrong_boxes (least_of (map drawn_edge edges)) t.faces → HasPlaceLines t lines

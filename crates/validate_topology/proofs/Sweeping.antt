@@ -1,13 +1,13 @@
 -- What a sweep over pieces has found.
-use Rattle.std.proofs.Common.{◌≡◌, ◌≢◌, ◌∙◌, ◌⊎◌, inl, inr, ⊎_elim, ℕ, zero, suc, ◌+◌, ◌<◌, ◌≤◌, min, max, ℤ, ◌≤ℤ◌, ◌<ℤ◌, Bool, true, false, not, ◌&&◌, ◌==◌, cond, if◌then◌else◌, IsTrue, List, [], ◌∷◌, drop, length, get_or, Option, Some, None, MatchOption, refl, sym, ap, subst, arith}
+use Rattle.std.proofs.Common.{◌≡◌, ◌≢◌, ◌∙◌, ◌⊎◌, inl, inr, ⊎_elim, ℕ, zero, suc, min, max, ℤ, ◌≤ℤ◌, ◌<ℤ◌, Bool, true, false, not, ◌&&◌, ◌==◌, if◌then◌else◌, IsTrue, List, [], ◌∷◌, drop, Option, Some, None, MatchOption, refl, sym, subst, arith}
 use Rattle.std.specs.Prelude.{Contains}
 use Rattle.std.proofs.lemmas.Bool.{and_parts, and_from, false≢true}
 use Rattle.std.proofs.lemmas.Bool.Decides.{Decides-eqb, Decides-not}
 use Rattle.topo_base.specs.Point.{Point, same_point}
-use Rattle.topo_base.specs.RationalPoint.{RationalPoint, rational}
+use Rattle.topo_base.specs.RationalPoint.{rational}
 use Rattle.plane.specs.Segment.{Segment}
-use Rattle.plane.specs.Relation.{HaveOne, SameCoordinates}
-use Rattle.plane.proofs.ListTests.{contains_here, contains_there, contains_cases, contains_none}
+use Rattle.plane.specs.Relation.{HaveOne}
+use Rattle.plane.proofs.ListTests.{contains_cases, contains_none}
 use Rattle.plane.proofs.PointTests.{Decides-same_point}
 use Rattle.plane.proofs.Relations.{on_end, joined}
 use Rattle.plane.proofs.Ring.{signed}

@@ -10,4 +10,5 @@ pub mod PlainLines
 pub mod Raw
 pub mod References
 pub mod RelationLines
+pub mod RelationOrder
 pub mod Stages

@@ -1,5 +1,5 @@
 -- The lines of a report on points and lines.
-use Rattle.std.specs.Prelude.{◌≡◌, IsTrue, Bool, false, not, ℕ, List, ◌++◌, map, flat_map, Option, Some, None}
+use Rattle.std.specs.Prelude.{◌≡◌, Bool, false, not, ℕ, List, ◌++◌, map, flat_map, Option, Some, None}
 use Rattle.topo_base.specs.Point.{Point, same_point}
 use Rattle.topo_base.specs.declared.rows.NodeRow.{NodeRow}
 use Rattle.topo_base.specs.declared.rows.EdgeRow.{EdgeRow}

@@ -1,5 +1,6 @@
 -- Raw tables as the tables of the definitions.
-use Rattle.std.specs.Prelude.{◌∷◌}
+use Rattle.std.specs.Prelude.{[], ◌∷◌}
+use Rattle.topo_base.specs.declared.rows.Counters.{Counters}
 use Rattle.drawing.specs.Tables.{Tables, universal_face}
 use Rattle.validate_topology.specs.declared.raw.RawTables.{RawTables}
 
@@ -15,3 +16,7 @@ tables_in r =
       features = r.features;
       relations = r.relations;
     }
+
+-- no rows but face 0
+abbrev pub no_rows : Counters → RawTables
+no_rows next = record { next = next; nodes = []; edges = []; faces = []; layers = []; features = []; relations = [] }

@@ -1,9 +1,9 @@
 //! A report on tables from anywhere: what keeps them from standing for a planar subdivision, and where.
 //!
 //! It stands on the exact tests of `grid_segments`, `grid_lines`, `grid_angle` and `grid_rays`, and on the tables of
-//! `drawing`. It promises the lines on ids and references, on points and lines, on nodes and on boxes exactly as
-//! `specs/` defines them, and that tables without lines stand for a plain drawing. The lines on links, rings and what
-//! lies in another face have no clause. Reading dumps and printing lines is left to `table_dump`.
+//! `drawing`. It promises the lines on ids and references, on points and lines, on nodes, on links and on boxes
+//! exactly as `specs/` defines them, and that tables without lines stand for a plain drawing. The lines on rings and
+//! what lies in another face have no clause. Reading dumps and printing lines is left to `table_dump`.
 #![tactic(auto)]
 
 mod above;

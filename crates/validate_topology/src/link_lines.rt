@@ -1,17 +1,19 @@
 // What is wrong with containing faces and links.
-ghost use Rattle.std.specs.Prelude.{◌≡◌, ◌++◌, ◌||◌, ◌==◌, ℕ, Bool, true, List, length, map, if◌then◌else◌, IfOk, OnOk, vec_len};
+ghost use Rattle.std.specs.Prelude.{◌≡◌, ◌+◌, ◌*◌, ◌<◌, ◌++◌, ◌||◌, ◌==◌, ℕ, Bool, true, List, length, map, slice_index_or, if◌then◌else◌, IfOk, OnOk, vec_len};
 ghost use Rattle.topo_base.specs.declared.rows.NodeRow.{NodeRow as NodeValue};
 ghost use Rattle.drawing.specs.Drawing.{is_end_of};
+ghost use Rattle.drawing.specs.HalfEdge.{HalfEdge, dart_of as dart_of_half};
+ghost use Rattle.drawing.specs.Star.{next_of};
 ghost use Rattle.drawing.specs.Tables.{drawn_edge};
-ghost use Rattle.validate_topology.specs.declared.lines.ReportLine.{ReportLine as LineValue};
-ghost use Rattle.validate_topology.specs.LinkLines.{has_edge, isolated_without_face, joined_with_face, nodes_isolated, nodes_joined};
+ghost use Rattle.validate_topology.specs.Following.{AreNext, half_edge, half_edges_of};
+ghost use Rattle.validate_topology.specs.LinkLines.{has_edge, isolated_without_face, joined_with_face, left_wrong as left_line, lefts_wrong as left_lines, nodes_isolated, nodes_joined, right_wrong as right_line, rights_wrong as right_lines};
 
 use crate::lines::{Report, ReportLine};
-use crate::sides::{Side, dart_of, link_of};
+use crate::sides::{Side, dart_of};
 use crate::stars::Followers;
 use crate::table::Rows;
 use std::alloc::Global;
-use topo_base::{EdgeRow, Memory, NodeId, NodeRow, is_same_dart};
+use topo_base::{Dart, EdgeRow, Memory, NodeId, NodeRow, is_same_dart};
 
 /// Marks the place of a node.
 fn mark(nodes: &Rows<NodeRow>, node: NodeId, joined: &mut Vec<bool>)
@@ -113,34 +115,67 @@ fn node_lines(
     Ok(())
 }
 
-/// The line of a link that isn't the dart that is next.
-fn link_line(side: &Side<'_>, on: &Side<'_>) -> Option<ReportLine> {
-    let (edge, next) = (side.row.edge_id, dart_of(on));
-    if is_same_dart(&link_of(side), &next) {
-        None
-    } else if side.is_forward {
-        Some(ReportLine::NextLeftWrong { edge, next })
-    } else {
-        Some(ReportLine::NextRightWrong { edge, next })
-    }
+/// The dart that is next after the one at a place.
+fn next_dart(sides: &[Side<'_>], followers: &Followers, place: usize) -> Dart
+    requires len { length followers.now ≡ length sides.now }
+    requires place { place < length sides.now }
+    ensures { (hs : List HalfEdge) (d : HalfEdge) → map half_edge sides.now ≡ hs → AreNext hs followers.now → result ≡ dart_of_half (next_of hs (slice_index_or hs place d)) }
+{
+    dart_of(&sides[followers.next(place)])
 }
 
-/// The lines of the links of the darts that are walked in this direction.
-fn links_wrong(
+fn left_wrong(row: &EdgeRow, next: Dart, report: &mut Report) -> Result<(), Memory>
+    ensures { OnOk result (report.new ≡ report.old ++ left_line row.now.edge_id row.now.next_left_edge next) }
+{
+    let wrong = !is_same_dart(&row.next_left_edge, &next);
+    let edge = row.edge_id;
+    report.push_if(wrong, ReportLine::NextLeftWrong { edge, next })
+}
+
+/// The lines of the links on the left that aren't the dart that is next.
+fn lefts_wrong(
+    edges: &[EdgeRow],
     sides: &[Side<'_>],
     followers: &Followers,
-    is_forward: bool,
     report: &mut Report,
 ) -> Result<(), Memory>
-    requires { length followers.now ≡ length sides.now }
-    ensures { OnOk result ((more : List LineValue) × (report.new ≡ report.old ++ more)) }
+    requires len { length sides.now ≡ 2 * length edges.now }
+    requires followers { length followers.now ≡ length sides.now }
+    requires sides { map half_edge sides.now ≡ half_edges_of edges.now }
+    requires next { AreNext (half_edges_of edges.now) followers.now }
+    ensures { OnOk result (report.new ≡ report.old ++ left_lines (half_edges_of edges.now) edges.now) }
 {
-    for place in 0..sides.len() {
-        if sides[place].is_forward == is_forward
-            && let Some(line) = link_line(&sides[place], &sides[followers.next(place)])
-        {
-            report.push(line)?;
-        }
+    for index in 0..edges.len() {
+        let next = next_dart(sides, followers, 2 * index);
+        left_wrong(&edges[index], next, report)?;
+    }
+    Ok(())
+}
+
+fn right_wrong(row: &EdgeRow, next: Dart, report: &mut Report) -> Result<(), Memory>
+    ensures { OnOk result (report.new ≡ report.old ++ right_line row.now.edge_id row.now.next_right_edge next) }
+{
+    let wrong = !is_same_dart(&row.next_right_edge, &next);
+    let edge = row.edge_id;
+    report.push_if(wrong, ReportLine::NextRightWrong { edge, next })
+}
+
+/// The lines of the links on the right that aren't the dart that is next.
+fn rights_wrong(
+    edges: &[EdgeRow],
+    sides: &[Side<'_>],
+    followers: &Followers,
+    report: &mut Report,
+) -> Result<(), Memory>
+    requires len { length sides.now ≡ 2 * length edges.now }
+    requires followers { length followers.now ≡ length sides.now }
+    requires sides { map half_edge sides.now ≡ half_edges_of edges.now }
+    requires next { AreNext (half_edges_of edges.now) followers.now }
+    ensures { OnOk result (report.new ≡ report.old ++ right_lines (half_edges_of edges.now) edges.now) }
+{
+    for index in 0..edges.len() {
+        let next = next_dart(sides, followers, 2 * index + 1);
+        right_wrong(&edges[index], next, report)?;
     }
     Ok(())
 }
@@ -154,10 +189,13 @@ pub fn link_lines(
     followers: &Followers,
     report: &mut Report,
 ) -> Result<(), Memory>
-    requires { length followers.now ≡ length sides.now }
-    ensures { OnOk result ((links : List LineValue) × (report.new ≡ report.old ++ nodes_joined (has_edge (map drawn_edge edges.now)) nodes.now ++ nodes_isolated (has_edge (map drawn_edge edges.now)) nodes.now ++ links)) }
+    requires len { length sides.now ≡ 2 * length edges.now }
+    requires followers { length followers.now ≡ length sides.now }
+    requires sides { map half_edge sides.now ≡ half_edges_of edges.now }
+    requires next { AreNext (half_edges_of edges.now) followers.now }
+    ensures { OnOk result (report.new ≡ report.old ++ nodes_joined (has_edge (map drawn_edge edges.now)) nodes.now ++ nodes_isolated (has_edge (map drawn_edge edges.now)) nodes.now ++ left_lines (half_edges_of edges.now) edges.now ++ right_lines (half_edges_of edges.now) edges.now) }
 {
     node_lines(alloc, nodes, edges, report)?;
-    links_wrong(sides, followers, true, report)?;
-    links_wrong(sides, followers, false, report)
+    lefts_wrong(edges, sides, followers, report)?;
+    rights_wrong(edges, sides, followers, report)
 }

@@ -1,5 +1,7 @@
-ghost use Rattle.std.specs.Prelude.{◌≡◌, []};
+ghost use Rattle.std.specs.Prelude.{◌≡◌, ◌++◌, ◌∷◌, [], None, IsTrue, IfOk, OnErr, if◌then◌else◌};
 ghost use Rattle.drawing.specs.Relations.{row_before};
+ghost use Rattle.validate_topology.specs.RelationOrder.{comes_behind, last_relation, relations_ascend};
+ghost use Rattle.validate_topology.specs.Raw.{no_rows};
 
 use crate::table::Rows;
 use std::alloc::Global;
@@ -15,12 +17,15 @@ pub struct RelationRows {
 }
 
 impl Model for RelationRows {
-    ghost use Rattle.std.specs.Prelude.{List};
+    ghost use Rattle.std.specs.Prelude.{List, None, IsTrue};
     ghost use Rattle.topo_base.specs.declared.rows.RelationRow.{RelationRow as RowValue};
+    ghost use Rattle.validate_topology.specs.RelationOrder.{relations_ascend};
 
     ghost Value = { List RowValue };
 
     ghost view = { λ r. r.rows.items };
+
+    ghost invariant = { λ r. IsTrue (relations_ascend None r.rows.items) };
 }
 
 /// Whether a row comes before another: by feature, then by type, then by element.
@@ -38,6 +43,16 @@ fn comes_before(a: &RelationRow, b: &RelationRow) -> bool
         && a.element_id < b.element_id
 }
 
+/// Whether a row comes after the last of others.
+fn stands_behind(rows: &[RelationRow], row: &RelationRow) -> bool
+    ensures { result ≡ comes_behind (last_relation None rows.now) row.now }
+{
+    match rows.last() {
+        None => true,
+        Some(last) => comes_before(last, row),
+    }
+}
+
 impl RelationRows {
     /// No rows. Takes no memory.
     pub fn new(alloc: Global) -> RelationRows
@@ -50,16 +65,19 @@ impl RelationRows {
 
     /// The rows in order.
     pub fn rows(&self) -> &[RelationRow]
-        ensures { result.now ≡ self.now }
+        ensures rows { result.now ≡ self.now }
+        ensures ascend { IsTrue (relations_ascend None self.now) }
     {
         &self.rows
     }
 
     /// Puts a row behind the others, where it comes after them, and says whether it was.
-    pub fn push(&mut self, row: RelationRow) -> Result<bool, Memory> {
-        if let Some(last) = self.rows.last()
-            && !comes_before(last, &row)
-        {
+    pub fn push(&mut self, row: RelationRow) -> Result<bool, Memory>
+        ensures behind { IfOk result (λ b. b ≡ comes_behind (last_relation None self.old) row) }
+        ensures rows { IfOk result (λ b. self.new ≡ (if b then self.old ++ row ∷ [] else self.old)) }
+        ensures err { OnErr result (self.new ≡ self.old) }
+    {
+        if !stands_behind(&self.rows, &row) {
             return Ok(false);
         }
         self.rows.push(row)?;
@@ -82,7 +100,9 @@ pub struct RawTables {
 
 impl RawTables {
     /// The tables with these next ids, and no rows but face 0. Takes no memory.
-    pub fn new(alloc: Global, next: Counters) -> RawTables {
+    pub fn new(alloc: Global, next: Counters) -> RawTables
+        ensures { result ≡ no_rows next }
+    {
         RawTables {
             next,
             nodes: Rows::new(alloc),

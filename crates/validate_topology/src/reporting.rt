@@ -2,6 +2,7 @@
 ghost use Rattle.std.specs.Prelude.{◌≡◌, ◌<◌, [], ◌++◌, OnOk, IfOk};
 ghost use Rattle.drawing.specs.Plain.{IsPlain};
 ghost use Rattle.drawing.specs.Tables.{drawn};
+ghost use Rattle.validate_topology.specs.PlainLines.{HasPlainLines};
 ghost use Rattle.validate_topology.specs.Raw.{tables_in};
 ghost use Rattle.validate_topology.specs.References.{drawing_references as lines_of_drawing, layer_references as lines_of_layers, past_next as lines_past_next};
 ghost use Rattle.validate_topology.specs.RelationLines.{AreReferenceLines};
@@ -72,9 +73,12 @@ fn reference_lines(alloc: Global, raw: &RawTables, report: &mut Report) -> Resul
 
 /// The lines on rings and faces, of tables with right references and plain lines.
 fn face_lines(alloc: Global, raw: &RawTables, report: &mut Report) -> Result<(), Memory>
-    requires { report.old ≡ [] }
+    requires none { report.old ≡ [] }
+    requires references { AreReferenceLines (tables_in raw.now) [] }
+    requires points { HasPlainLines (tables_in raw.now) [] }
     ensures { OnOk result (AreFaceLines (tables_in raw.now) report.new) }
 {
+    let _ = raw.nodes.rows();
     let edges = raw.edges.rows();
     let sides = sides_of(alloc, edges)?;
     let followers = followers_of(alloc, edges)?;
@@ -111,9 +115,9 @@ fn counted_report<L: Ledger>(alloc: Global, raw: &RawTables, blank: Blank) -> Re
     Ok(report)
 }
 
-/// What is wrong with the tables, and where: the lines of the first stage that has any. Those of the first two
-/// stages are exactly those of the definition, and so are those on nodes and boxes. Tables without lines stand for a
-/// plain drawing.
+/// What is wrong with the tables, and where: the lines of the first stage that has any. Those of the first three
+/// stages are exactly those of the definition, and so are those on boxes. Tables without lines stand for a plain
+/// drawing.
 pub fn report(alloc: Global, raw: &RawTables) -> Result<Report, Memory>
     ensures lines { IfOk result (IsReport (tables_in raw.now)) }
     ensures plain { IfOk result (λ r. r ≡ [] → IsPlain (drawn (tables_in raw.now))) }

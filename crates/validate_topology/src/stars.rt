@@ -1,6 +1,10 @@
 // The darts about each node in clockwise order, and so the dart that is next after each.
-ghost use Rattle.std.specs.Prelude.{◌≡◌, ℕ, ◌+◌, ◌*◌, ◌^◌, ◌<◌, ◌≤◌, length, vec_len, All, IfOk, OnOk};
-ghost use Rattle.validate_topology.specs.Following.{IsPlaced};
+ghost use Rattle.std.specs.Prelude.{◌≡◌, ℕ, ◌+◌, ◌*◌, ◌^◌, ◌<◌, ◌≤◌, ◌++◌, ◌==◌, ◌∷◌, [], List, length, map, vec_len, slice_index_or, if◌then◌else◌, All, IfOk, OnOk};
+ghost use Rattle.std.specs.Ordering.{is_lt};
+ghost use Rattle.topo_base.specs.declared.rows.EdgeRow.{EdgeRow as EdgeValue};
+ghost use Rattle.drawing.specs.Star.{leaving as leaving_of};
+ghost use Rattle.validate_topology.specs.Following.{AreNext, ArePlainEdges, AreSpokes, HasRowAt, IsSpokeOf, goes_on, half_edge, half_edges_of, some_direction, spoke_less};
+ghost use Rattle.validate_topology.specs.declared.stars.Spoke.{Spoke as SpokeValue};
 
 use crate::sides::{Side, leaving, node_of};
 use grid_angle::{Dir, clockwise};
@@ -37,7 +41,8 @@ impl Followers {
     /// The place of the dart that is next after the one at a place.
     pub fn next(&self, place: usize) -> usize
         requires { place < length self.now }
-        ensures { result < length self.now }
+        ensures within { result < length self.now }
+        ensures next { result ≡ slice_index_or self.now place 0 }
     {
         self.places[place]
     }
@@ -52,20 +57,21 @@ struct Spoke {
     twin: usize,
 }
 
-/// The order of darts: by node, then clockwise from straight up, then by place.
-fn order_of(a: &Spoke, b: &Spoke) -> Ordering {
+/// The order of darts: by node, then clockwise from straight up.
+fn order_of(a: &Spoke, b: &Spoke) -> Ordering
+    ensures { is_lt result ≡ spoke_less a.now b.now }
+{
     if a.node != b.node {
         return a.node.cmp(&b.node);
     }
-    match clockwise(Dir::up(), a.dir, b.dir) {
-        Ordering::Equal => a.place.cmp(&b.place),
-        Ordering::Less => Ordering::Less,
-        Ordering::Greater => Ordering::Greater,
-    }
+    clockwise(Dir::up(), a.dir, b.dir)
 }
 
 fn spoke_of(side: &Side<'_>, place: usize, twin: usize) -> Spoke
-    ensures { (result.place ≡ place) × (result.twin ≡ twin) }
+    ensures places { (result.place ≡ place) × (result.twin ≡ twin) }
+    ensures node { result.node ≡ (half_edge side.now).from_node }
+    ensures dir { result.dir ≡ some_direction (leaving_of (half_edge side.now)) }
+    ensures long { 2 ≤ length ((half_edge side.now).points) }
 {
     Spoke {
         node: node_of(side).0,
@@ -79,7 +85,8 @@ fn spoke_of(side: &Side<'_>, place: usize, twin: usize) -> Spoke
 fn push_spokes(spokes: &mut Vec<Spoke>, row: &EdgeRow, place: usize) -> Result<(), Memory>
     requires { place + 1 < 2 ^ 64 }
     ensures len { OnOk result (vec_len spokes.new ≡ vec_len spokes.old + 2) }
-    ensures placed { OnOk result ((n : ℕ) → place + 2 ≤ n → All (IsPlaced n) spokes.old.items → All (IsPlaced n) spokes.new.items) }
+    ensures places { OnOk result (map (λ (s : SpokeValue). s.place) spokes.new.items ≡ map (λ (s : SpokeValue). s.place) spokes.old.items ++ place ∷ (place + 1) ∷ []) }
+    ensures each { OnOk result ((rows : List EdgeValue) → HasRowAt rows row.now place → All (IsSpokeOf (half_edges_of rows)) spokes.old.items → All (IsSpokeOf (half_edges_of rows)) spokes.new.items) }
 {
     let forward = Side {
         row,
@@ -96,43 +103,59 @@ fn push_spokes(spokes: &mut Vec<Spoke>, row: &EdgeRow, place: usize) -> Result<(
 
 /// All darts, node after node, and clockwise about each.
 fn spokes_of(alloc: Global, edges: &[EdgeRow]) -> Result<Vec<Spoke>, Memory>
-    ensures { IfOk result (λ v. (vec_len v ≡ 2 * length edges.now) × All (IsPlaced (2 * length edges.now)) v.items) }
+    ensures len { IfOk result (λ v. vec_len v ≡ 2 * length edges.now) }
+    ensures spokes { IfOk result (λ v. AreSpokes (half_edges_of edges.now) v.items) }
 {
     let mut spokes = Vec::new(alloc);
-    for (index, row) in edges.iter().enumerate() {
-        push_spokes(&mut spokes, row, 2 * index)?;
+    for index in 0..edges.len() {
+        push_spokes(&mut spokes, &edges[index], 2 * index)?;
     }
     spokes.sort_unstable_by(|a, b| order_of(a, b));
     Ok(spokes)
 }
 
-/// The place of the one that follows the one at this index, where that node's first stands at `first`.
-fn follower(spokes: &[Spoke], first: usize, index: usize) -> usize
-    requires all { All (IsPlaced (length spokes.now)) spokes.now }
+/// The index of the one that follows the one at this index, where that node's first stands at `first`.
+fn index_after(spokes: &[Spoke], first: usize, index: usize) -> usize
     requires first { first < length spokes.now }
     requires index { index < length spokes.now }
-    ensures { result < length spokes.now }
+    ensures within { result < length spokes.now }
+    ensures after { (s : SpokeValue) → result ≡ (if goes_on spokes.now index s then index + 1 else first) }
 {
     let on = index + 1;
     if on < spokes.len() && spokes[on].node == spokes[index].node {
-        spokes[on].place
+        on
     } else {
-        spokes[first].place
+        first
+    }
+}
+
+/// The index of the first of the same node as the one at this index, where `first` is that of the one before.
+fn index_of_first(spokes: &[Spoke], first: usize, index: usize) -> usize
+    requires first { first ≤ index }
+    requires index { index < length spokes.now }
+    ensures within { result ≤ index }
+    ensures begins { (s : SpokeValue) → result ≡ (if (slice_index_or spokes.now first s).node == (slice_index_or spokes.now index s).node then first else index) }
+{
+    if spokes[first].node == spokes[index].node {
+        first
+    } else {
+        index
     }
 }
 
 /// For each dart the dart that is next: the first that leaves the node where it arrives, clockwise from the way back.
 pub fn followers_of(alloc: Global, edges: &[EdgeRow]) -> Result<Followers, Memory>
-    ensures { IfOk result (λ f. length f ≡ 2 * length edges.now) }
+    requires { ArePlainEdges edges.now }
+    ensures len { IfOk result (λ f. length f ≡ 2 * length edges.now) }
+    ensures next { IfOk result (λ f. AreNext (half_edges_of edges.now) f) }
 {
     let spokes = spokes_of(alloc, edges)?;
     let mut places = vec![in alloc; 0; spokes.len()]?;
     let mut first = 0;
     for index in 0..spokes.len() {
-        if spokes[first].node != spokes[index].node {
-            first = index;
-        }
-        places[spokes[index].twin] = follower(&spokes, first, index);
+        first = index_of_first(&spokes, first, index);
+        let next = index_after(&spokes, first, index);
+        places[spokes[index].twin] = spokes[next].place;
     }
     Ok(Followers { places })
 }

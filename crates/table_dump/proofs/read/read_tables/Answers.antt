@@ -1,11 +1,11 @@
-use Rattle.std.proofs.Common.{◌≡◌, ℕ, ◌+◌, List, length, Option, None, Result, Err, sym, ap, subst, rules}
+use Rattle.std.proofs.Common.{◌≡◌, ℕ, ◌+◌, List, length, Option, None, Result, Err, ap, subst, rules}
 use Rattle.std.proofs.lemmas.List.{nil_from_length}
 use Rattle.validate_topology.specs.declared.raw.RawTables.{RawTables}
 use Rattle.table_dump.specs.declared.ends.LineEnd.{LineEnd}
 use Rattle.table_dump.specs.declared.ends.LineEnd.TheVariants.{Bad}
 use Rattle.table_dump.specs.declared.read.DumpEnd.{DumpEnd}
 use Rattle.table_dump.specs.declared.read.DumpEnd.TheVariants.{BadLine}
-use Rattle.table_dump.specs.Dump.{IsDump, IsFirstBad}
+use Rattle.table_dump.specs.Dump.{IsFirstBad}
 use Rattle.table_dump.specs.Lines.{lines_of, words_of}
 use Rattle.table_dump.specs.Rows.{DumpRow, next_in, row_in}
 use Rattle.table_dump.specs.Steps.{Front, Puts, front_of}
@@ -59,9 +59,8 @@ returns-then-not-reading-clause-bad c = λ n e.
     let read = subst (λ r. IsReadTo c.args.text.now r c.loop-rest.line (front_of c.loop-rest.reading)) (nil_from_length c.loop-rest.rest.now none) c.loop-rest.invariant in
     bad_at c.args.text.now (c.loop-rest.line + 1) n e (end_bad c.args.text.now c.loop-rest.line (front_of c.loop-rest.reading) read c.if-not-reading.true)
 
-pub returns-in-Ok-tables-clause-dump : goal.returns-in-Ok-tables-clause-dump
-returns-in-Ok-tables-clause-dump c =
+pub returns-clause-dump : goal.returns-clause-dump
+returns-clause-dump c =
     let none : length c.loop-rest.rest.now ≡ 0 = search rules in
     let read = subst (λ r. IsReadTo c.args.text.now r c.loop-rest.line (front_of c.loop-rest.reading)) (nil_from_length c.loop-rest.rest.now none) c.loop-rest.invariant in
-    let dump = end_good c.args.text.now c.loop-rest.line (front_of c.loop-rest.reading) read c.if-not-reading.false in
-    (c.loop-rest.reading.relations.items, subst (IsDump c.args.text.now) (sym c.in-Ok-tables.ensures) dump)
+    end_good c.args.text.now c.loop-rest.line (front_of c.loop-rest.reading) read c.if-not-reading.false

@@ -1,4 +1,4 @@
-use Rattle.std.proofs.Common.{◌↔◌, IsTrue, ap, subst}
+use Rattle.std.proofs.Common.{◌↔◌, IsTrue, subst}
 use Rattle.plane.specs.Segment.{Segment}
 use Rattle.validate_topology.specs.Pieces.{Cross, way_of}
 use Rattle.validate_topology.proofs.Crossings.{first_point, second_point}

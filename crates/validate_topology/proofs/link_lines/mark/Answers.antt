@@ -1,6 +1,5 @@
 use Rattle.std.proofs.Common.{◌≡◌, ◌∙◌, ℕ, ap, true, List, Bool, None, subst}
 use Rattle.std.specs.Prelude.{slice_get, slice_set}
-use Rattle.topo_base.specs.declared.rows.NodeRow.{NodeRow}
 use Rattle.drawing.specs.Drawing.{node_id_of}
 use Rattle.drawing.specs.Rows.{row_at}
 use Rattle.validate_topology.proofs.Marked.{none_by, set_by}

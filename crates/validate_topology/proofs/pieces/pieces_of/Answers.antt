@@ -1,7 +1,7 @@
-use Rattle.std.proofs.Common.{◌≡◌, ◌∙◌, ◌++◌, ◌↔◌, flat_map, ap, rules, subst, List, map}
+use Rattle.std.proofs.Common.{◌∙◌, ◌++◌, ◌↔◌, flat_map, ap, rules, subst, List, map}
 use Rattle.std.specs.Prelude.{Contains}
 use Rattle.std.proofs.lemmas.List.Sorted.{answers_always}
-use Rattle.validate_topology.specs.Pieces.{all_pieces, edge_pieces, left_of, node_piece}
+use Rattle.validate_topology.specs.Pieces.{edge_pieces, left_of, node_piece}
 use Rattle.validate_topology.specs.declared.pieces.Piece.{Piece}
 use Rattle.validate_topology.proofs.PieceOrder.{order_of, same_members}
 use Rattle.validate_topology.proofs.pieces.pieces_of.Goals as goal

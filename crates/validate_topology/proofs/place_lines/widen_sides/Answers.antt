@@ -1,5 +1,4 @@
-use Rattle.std.proofs.Common.{◌∙◌, ◌||◌, ◌==◌, if◌then◌else◌, map, List}
-use Rattle.topo_base.specs.Point.{Point}
+use Rattle.std.proofs.Common.{◌∙◌, if◌then◌else◌, map}
 use Rattle.topo_base.specs.declared.rows.FaceRow.{FaceRow}
 use Rattle.drawing.specs.Tables.{drawn_edge, has_side}
 use Rattle.validate_topology.specs.BoxLines.{box_of_all}

@@ -10,7 +10,7 @@ use Rattle.validate_topology.proofs.relation_lines.relation_lines.Goals as goal
 pub returns : goal.returns
 returns c =
     let t = tables_in c.args.raw.now in
-    let rows = c.rows-rows.ensures in
+    let rows = c.rows-rows.ensures.rows in
     let ps = c.in_order-strangers.result.items in
     let qs = c.in_order-wrong.result.items in
     let strangers = c.in_ok-unlisted_features.ensures ∙ ap (unlisted t.features) rows in

@@ -1,6 +1,6 @@
 use Rattle.std.proofs.Common.{◌+◌, ◌⊎◌, List, drop, subst, sym}
 use Rattle.std.specs.Prelude.{Contains}
-use Rattle.validate_topology.specs.Pieces.{AreFoundOf, AreInOrder, IsOfOne, IsOfTwo}
+use Rattle.validate_topology.specs.Pieces.{AreFoundOf, AreInOrder, IsOfOne}
 use Rattle.validate_topology.specs.declared.conflicts.Conflict.{Conflict}
 use Rattle.validate_topology.specs.declared.pieces.Piece.{Piece}
 use Rattle.validate_topology.proofs.PieceOrder.{in_rest, item_there, next_is}
