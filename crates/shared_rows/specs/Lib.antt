@@ -1,0 +1,4 @@
+pub mod Places
+pub mod Children
+pub mod Slotted
+pub mod Capacity
