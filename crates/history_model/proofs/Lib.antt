@@ -1,4 +1,4 @@
 pub mod Running
-pub mod CoreRunning
+pub mod LegalHistories
 pub mod Fronts
 pub mod Spellings

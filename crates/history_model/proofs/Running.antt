@@ -13,8 +13,7 @@ use Rattle.drawing.specs.Outcome.{Accepted, Outcome}
 use Rattle.drawing.specs.Step.{step}
 use Rattle.drawing.specs.Replay.{replay, after, after_all, edits_of, drawing_of, answer_of, front_after}
 use Rattle.drawing.specs.Accepted.{keeps_limits}
-use Rattle.history_model.specs.Answers.{Bounds, IsRight, by_step, IsAcceptedWith}
-use Rattle.history_model.specs.CoreLaw.{entry_of}
+use Rattle.history_model.specs.Answers.{Bounds, IsRight, by_step, IsAcceptedWith, entry_of}
 use Rattle.edit_changes.proofs.PlainStays.{plain_stays}
 use Rattle.history_model.specs.Run.{AreAnswersFrom, entries_of, is_history, AreRight, RunsAreRight}
 

@@ -14,7 +14,7 @@ use Rattle.drawing.specs.Replay.{replay, after}
 use Rattle.drawing.specs.Accepted.{ids_within}
 use Rattle.history_model.specs.Legal.{journal_length}
 use Rattle.drawing.specs.Stamps.{stamp_now}
-use Rattle.history_model.specs.Reads.{reads}
+use Rattle.history_model.specs.Reads.{ReadTable, reads}
 
 -- how far a history may grow
 pub record Bounds : Type 0 where
@@ -38,12 +38,12 @@ IsRefusedBy (Err r) rule = r ≡ rule
 abbrev pub IsEntryAt : List Entry → ℕ → Entry → Type 0
 IsEntryAt history place x = (n : ℕ) × ((place ≡ n + 1) × (slice_get history n ≡ Some x))
 
--- the first of these elements that has another stamp now
+-- whether an element has another stamp now, and the first that was read and has
 abbrev pub has_changed : List Entry → ℕ → ℕ → Element → Bool
 has_changed history g f x = not (stamp_now (drawing_at history g) (take g history) x == stamp_now (drawing_at history f) (take f history) x)
 
-abbrev pub first_changed : List Entry → ℕ → ℕ → Edit → Option Element
-first_changed history g f e = find (has_changed history g f) (reads (drawing_at history g) e)
+abbrev pub first_changed : ReadTable → List Entry → ℕ → ℕ → Edit → Option Element
+first_changed table history g f e = find (has_changed history g f) (table (drawing_at history g) e)
 
 -- entries of other editors after a place
 abbrev pub others_after : List Entry → ℕ → ℕ → ℕ → ℕ
@@ -67,21 +67,30 @@ pub record IsRightRefusal (m : Bounds) (history : List Entry) (k s : ℕ) (e : E
   pub inside : f ≤ length history
   pub refused : IsRuleThere m (take f history) (record { editor = k; edit = e }) rule
 
-pub record IsRightStale (history : List Entry) (k s tries : ℕ) (e : Edit) (x : Element) (read now f : ℕ) : Type 0 where
+pub record IsRightStale (table : ReadTable) (history : List Entry) (k s tries : ℕ) (e : Edit) (x : Element) (read now f : ℕ) : Type 0 where
   pub inside : f ≤ length history
   pub planned_at : ℕ
   pub later : s ≤ planned_at
   pub before : planned_at < f
   pub planned : IsOk (step (drawing_at history planned_at) e)
-  pub changed : first_changed history planned_at f e ≡ Some x
+  pub changed : first_changed table history planned_at f e ≡ Some x
   pub read_is : read ≡ stamp_now (drawing_at history planned_at) (take planned_at history) x
   pub now_is : now ≡ stamp_now (drawing_at history f) (take f history) x
   pub by_others : tries ≤ others_after history k s f
 
+-- by this table of reads
+abbrev pub IsRightBy : ReadTable → Bounds → List Entry → ℕ → ℕ → ℕ → Edit → Answer → Type 0
+IsRightBy table m history k s tries e (Done ids f) = IsRightDone history k s e ids f
+IsRightBy table m history k s tries e (Refused rule f) = IsRightRefusal m history k s e rule f
+IsRightBy table m history k s tries e (Stale x read now f) = IsRightStale table history k s tries e x read now f
+IsRightBy table m history k s tries e Unbound = ⊥
+IsRightBy table m history k s tries e DiskFault = Unit {0}
+IsRightBy table m history k s tries e Memory = Unit {0}
+
 abbrev pub IsRight : Bounds → List Entry → ℕ → ℕ → ℕ → Edit → Answer → Type 0
-IsRight m history k s tries e (Done ids f) = IsRightDone history k s e ids f
-IsRight m history k s tries e (Refused rule f) = IsRightRefusal m history k s e rule f
-IsRight m history k s tries e (Stale x read now f) = IsRightStale history k s tries e x read now f
-IsRight m history k s tries e Unbound = ⊥
-IsRight m history k s tries e DiskFault = Unit {0}
-IsRight m history k s tries e Memory = Unit {0}
+IsRight m history k s tries e answer = IsRightBy reads m history k s tries e answer
+
+-- the entries that an answer makes: one for Done
+abbrev pub entry_of : Answer → Entry → List Entry
+entry_of (Done ids f) x = x ∷ []
+entry_of answer x = []

@@ -2,8 +2,6 @@ pub mod Spelling
 pub mod Legal
 pub mod Reads
 pub mod Answers
-pub mod Core
 pub mod Run
-pub mod CoreLaw
 pub mod Journal
 pub mod SpellingLaw

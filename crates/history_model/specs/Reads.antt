@@ -1,4 +1,4 @@
--- The elements that an edit reads.
+-- Tables of reads: the elements that an edit reads in a drawing.
 use Rattle.std.specs.Prelude.{ℕ, Bool, true, false, not, ◌&&◌, ◌==◌, nat_eq, List, [], ◌∷◌, ◌++◌, map, filter, Option, Some, None, option_to_list, if◌then◌else◌}
 use Rattle.std.specs.List.{list_any}
 use Rattle.std.specs.Option.{option_eq}
@@ -27,6 +27,14 @@ use Rattle.drawing.specs.HealEdges.{common_nodes, healed_node, away_from}
 use Rattle.topo_base.specs.Kinds.{kind_number}
 use Rattle.drawing.specs.Descent.{ascending}
 
+abbrev pub ReadTable : Type 0
+ReadTable = Drawing → Edit → List Element
+
+-- ---- the whole drawing
+abbrev pub whole_drawing : ReadTable
+whole_drawing S e = TheDrawing ∷ []
+
+-- ---- what an edit depends on
 -- the elements by table; they are read in the order faces, edges, nodes, layers, features, each ascending and once
 pub record Readings : Type 0 where
   pub faces : List ℕ
@@ -130,7 +138,7 @@ reads_of_gain S None x r = r
 reads_of_gain S (Some t) x r = reads_of_elements (layer_at S t.layer_id) (x ∷ []) (record r { layers = t.layer_id ∷ [] })
 
 -- an added node is read by its face alone, and where it lies on an edge there is none
-abbrev pub reads : Drawing → Edit → List Element
+abbrev pub reads : ReadTable
 reads S (AddIsoNode face p) = in_order (record no_readings { faces = when (not (is_on_edge S p)) (face_at S p ∷ []) })
 reads S (MoveIsoNode n p) = in_order (record no_readings { faces = option_to_list (face_of_node (node_at S n)); nodes = n ∷ [] })
 reads S (RemoveIsoNode n) = in_order (record no_readings { nodes = n ∷ [] })

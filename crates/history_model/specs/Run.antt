@@ -9,8 +9,7 @@ use Rattle.drawing.specs.Drawing.{Drawing, nothing_drawn}
 use Rattle.drawing.specs.Step.{step}
 use Rattle.drawing.specs.Replay.{after, replay, answer_of, front_after}
 use Rattle.drawing.specs.Accepted.{is_entry, keeps_limits}
-use Rattle.history_model.specs.Answers.{Bounds, IsRight}
-use Rattle.history_model.specs.CoreLaw.{entry_of}
+use Rattle.history_model.specs.Answers.{Bounds, IsRight, entry_of}
 use Rattle.drawing.specs.Plain.{IsPlain}
 
 -- what a run may answer from a drawing and a front on: each answer is Step's at its place, or it is Memory and the last one; edits behind the last answer aren't tried

@@ -16,13 +16,12 @@ use Rattle.drawing.specs.Step.{step}
 use Rattle.drawing.specs.Replay.{replay, after, drawing_of}
 use Rattle.history_model.specs.Legal.{is_legal, journal_length}
 use Rattle.drawing.specs.Accepted.{is_entry, ids_within, keeps_limits}
-use Rattle.history_model.specs.Answers.{Bounds, IsRight, IsRuleThere, by_step, ids_spent, history_full, IsAcceptedWith}
+use Rattle.history_model.specs.Answers.{Bounds, IsRight, IsRuleThere, by_step, ids_spent, history_full, IsAcceptedWith, entry_of}
 use Rattle.script_model.specs.Bindings.{Names, no_names, bound, ids_of, resolve}
-use Rattle.history_model.specs.CoreLaw.{entry_of}
 use Rattle.script_model.specs.NamedRange.{is_script_line}
 use Rattle.history_model.specs.Run.{AreRight, entries_of, later_front, is_done}
 use Rattle.topo_model.specs.ScriptRun.{onto_edits, edits_given, onto_answers, answers_given}
-use Rattle.history_model.proofs.CoreRunning.{legal-push}
+use Rattle.history_model.proofs.LegalHistories.{legal-push}
 use Rattle.history_model.proofs.Running.{none_right}
 use Rattle.topo_model.proofs.Resolving.{edit_limits, good_edit}
 use Rattle.topo_model.proofs.ScriptRunning.{no_answers}

@@ -19,7 +19,7 @@ use Rattle.history_model.specs.Spelling.{frame_bytes}
 use Rattle.drawing.specs.Step.{step}
 use Rattle.drawing.specs.Tables.{Tables, tables_of, drawn}
 use Rattle.drawing.specs.Writes.{all_written}
-use Rattle.history_model.proofs.CoreRunning.{legal-push}
+use Rattle.history_model.proofs.LegalHistories.{legal-push}
 use Rattle.plane.proofs.LineTurns.{all-append}
 use Rattle.drawing.proofs.TableLemmas.{drawn-tables_of}
 use Rattle.topo_desk.specs.Beyond.{adds_beyond}

@@ -9,8 +9,7 @@ use Rattle.drawing.specs.Step.{step}
 use Rattle.drawing.specs.Replay.{replay}
 use Rattle.drawing.specs.Accepted.{ids_within}
 use Rattle.history_model.specs.Legal.{journal_length}
-use Rattle.history_model.specs.CoreLaw.{entry_of}
-use Rattle.history_model.specs.Answers.{Bounds}
+use Rattle.history_model.specs.Answers.{Bounds, entry_of}
 use Rattle.history_model.specs.Run.{is_done}
 
 -- the answer where nothing fails: the rule that refuses the edit; an id, or else the journal, would be beyond its limit; or it is done
