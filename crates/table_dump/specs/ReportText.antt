@@ -3,7 +3,7 @@ use Rattle.std.specs.Prelude.{ℕ, List, [], ◌∷◌, flat_map, codes}
 use Rattle.std.specs.Fmt.{decimal}
 use Rattle.script_model.specs.Words.{line_of, dart_word}
 use Rattle.table_dump.specs.declared.text.Named.{Named}
-use Rattle.table_dump.specs.declared.text.Named.TheVariants.{Number, Walked, Nothing}
+use Rattle.table_dump.specs.declared.text.Named.TheVariants.{Number, Count, Walked, Nothing}
 use Rattle.validate_topology.specs.declared.lines.ReportLine.{ReportLine}
 use Rattle.validate_topology.specs.declared.lines.ReportLine.TheVariants.{NodePastNext, EdgePastNext, FacePastNext, LayerPastNext, FeaturePastNext, NodeWithoutFace, EdgeWithoutNode, EdgeWithoutFace, EdgeWithoutNext, LayerLevelWrong, LayerChildWrong, LayerNameTaken, FeatureWithoutLayer, RelationWithoutFeature, RelationKindWrong, RelationUniverse, RelationWithoutElement, CoincidentNodes, EdgeStartMismatch, EdgeEndMismatch, EdgeNotSimple, EdgeCrossesNode, EdgeCrossesEdge, NodeJoinedWithFace, NodeIsolatedWithoutFace, NextLeftWrong, NextRightWrong, RingSidesDiffer, FaceShells, HoleInOtherFace, NodeInOtherFace, FaceBoxWrong}
 
@@ -120,5 +120,6 @@ report_text lines = flat_map report_line lines
 -- the words of what a line names
 abbrev pub named_word : Named → List ℕ
 named_word (Number n) = decimal n
+named_word (Count n) = decimal n
 named_word (Walked d) = dart_word d
 named_word Nothing = codes "-"

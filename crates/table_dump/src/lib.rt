@@ -10,8 +10,6 @@ mod laws;
 mod pieces;
 mod read;
 mod rows;
-#[cfg(test)]
-mod tests;
 mod text;
 
 pub use laws::dump_law;

@@ -7,10 +7,11 @@ use std::alloc::Global;
 use topo_base::{Dart, Memory, Text};
 use validate_topology::{Report, ReportLine};
 
-/// What a line names: a row or a number, a dart, or nothing.
+/// What a line names: a row or a number, how many there are, a dart, or nothing.
 #[derive(Clone, Copy, Debug)]
 enum Named {
     Number(u32),
+    Count(u64),
     Walked(Dart),
     Nothing,
 }
@@ -128,7 +129,7 @@ fn second_named(line: &ReportLine) -> Named
         ReportLine::NextLeftWrong { next, .. } => Named::Walked(*next),
         ReportLine::NextRightWrong { next, .. } => Named::Walked(*next),
         ReportLine::RingSidesDiffer { next, .. } => Named::Walked(*next),
-        ReportLine::FaceShells { count, .. } => Named::Number(*count),
+        ReportLine::FaceShells { count, .. } => Named::Count(*count),
         ReportLine::HoleInOtherFace { face, .. } => Named::Number(face.0),
         ReportLine::NodeInOtherFace { face, .. } => Named::Number(face.0),
         ReportLine::FaceBoxWrong { .. } => Named::Nothing,
@@ -140,6 +141,7 @@ fn push_named(text: &mut Text, named: Named) -> Result<(), Memory>
 {
     match named {
         Named::Number(n) => push_count_word(text, u64::from(n)),
+        Named::Count(n) => push_count_word(text, n),
         Named::Walked(dart) => push_dart_word(text, dart),
         Named::Nothing => push_word(text, b"-"),
     }

@@ -1,6 +1,10 @@
+pub mod AllRings
 pub mod Ascending
+pub mod Counting
 pub mod Crossings
 pub mod Ends
+pub mod FirstAbove
+pub mod HoleLines
 pub mod InOrder
 pub mod LeastBoxes
 pub mod Lookups
@@ -12,7 +16,11 @@ pub mod Plain
 pub mod PlainEdges
 pub mod Pushing
 pub mod RelationOrder
+pub mod RingWalks
+pub mod RingsFound
+pub mod RingsSound
 pub mod SideDirections
+pub mod SideLines
 pub mod SpokeOrder
 pub mod SpokePlaces
 pub mod Staging

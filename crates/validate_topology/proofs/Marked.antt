@@ -20,7 +20,7 @@ found_at {R} number (x ∷ rows) n r e = pick (found_at number rows n r) (number
     pick behind false h k = behind k
 
 -- ids above a number aren't that number
-others_stay : {R V : Type 0} (number : R → ℕ) (low : ℕ) (rows : List R) (f : ℕ → V) (n : ℕ) (w : V) → IsTrue (numbers_ascend number low rows) → n ≤ low
+pub others_stay : {R V : Type 0} (number : R → ℕ) (low : ℕ) (rows : List R) (f : ℕ → V) (n : ℕ) (w : V) → IsTrue (numbers_ascend number low rows) → n ≤ low
     → map (λ r. f (number r)) rows ≡ map (λ r. if number r == n then w else f (number r)) rows
 others_stay number low [] f n w up h = refl
 others_stay number low (r ∷ rows) f n w up h =

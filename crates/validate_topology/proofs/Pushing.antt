@@ -3,6 +3,12 @@ use Rattle.std.proofs.Common.{◌≡◌, ◌∙◌, ℕ, ◌+◌, ◌<◌, List,
 use Rattle.std.proofs.lemmas.Grind.{flat_map-append}
 use Rattle.std.proofs.lemmas.List.{take_more}
 
+pub three_pushed : {A : Type 0} (old n m new a b c : List A) → n ≡ old ++ a → m ≡ n ++ b → new ≡ m ++ c → new ≡ old ++ (a ++ b ++ c)
+three_pushed old n m new a b c e f g = g ∙ ap (λ l. l ++ c) (f ∙ ap (λ l. l ++ b) e) ∙ joined
+  where
+    joined : old ++ a ++ b ++ c ≡ old ++ (a ++ b ++ c)
+    joined = simp append_assoc
+
 pub four_pushed : {A : Type 0} (old n m k new a b c d : List A) → n ≡ old ++ a → m ≡ n ++ b → k ≡ m ++ c → new ≡ k ++ d → new ≡ old ++ (a ++ b ++ c ++ d)
 four_pushed old n m k new a b c d e f g h =
     h ∙ ap (λ l. l ++ d) (g ∙ ap (λ l. l ++ c) (f ∙ ap (λ l. l ++ b) e)) ∙ joined

@@ -38,8 +38,3 @@ same_box a b = false
 -- faces whose box isn't the least one
 abbrev pub wrong_boxes : (ℕ → Option Box4) → List FaceRow → List ReportLine
 wrong_boxes least rows = flat_map (λ (f : FaceRow). only_if (not (same_box f.mbr (least f.face_id))) (FaceBoxWrong f.face_id)) rows
-
--- the lines of the last stage: some on what lies in another face, and then those on boxes
-pub record HasPlaceLines (t : Tables) (lines : List ReportLine) : Type 0 where
-  pub places : List ReportLine
-  pub all : lines ≡ places ++ wrong_boxes (face_box (drawn t)) t.faces

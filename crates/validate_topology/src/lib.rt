@@ -1,13 +1,12 @@
 //! A report on tables from anywhere: what keeps them from standing for a planar subdivision, and where.
 //!
-//! It stands on the exact tests of `grid_segments`, `grid_lines`, `grid_angle` and `grid_rays`, and on the tables of
-//! `drawing`. It promises the lines on ids and references, on points and lines, on nodes, on links and on boxes
-//! exactly as `specs/` defines them, and that tables without lines stand for a plain drawing. The lines on rings and
-//! what lies in another face have no clause. Reading dumps and printing lines is left to `table_dump`.
+//! It stands on the exact tests of `grid_segments`, `grid_lines`, `grid_angle` and `grid_rays`, on the index of
+//! `slab_index`, and on the tables of `drawing`. It promises all lines exactly as `specs/` defines them, and that tables
+//! without lines stand for a plain drawing whose rings have one face each and whose faces have their shells. That each
+//! point is then in one face has no clause. Reading dumps and printing lines is left to `table_dump`.
 #![tactic(auto)]
 
 mod above;
-mod ceiling;
 mod conflicts;
 mod counters;
 mod crossing;
@@ -27,8 +26,6 @@ mod sides;
 mod stars;
 mod sweep;
 mod table;
-#[cfg(test)]
-mod tests;
 mod walks;
 
 pub use lines::{Report, ReportLine};

@@ -137,7 +137,7 @@ pub enum ReportLine {
     /// The face has so many shells among its rings, and not one, or as face 0 none.
     FaceShells {
         face: FaceId,
-        count: u32,
+        count: u64,
     },
     /// The face above the top vertex of a hole isn't the face of the hole.
     HoleInOtherFace {

@@ -1,133 +1,193 @@
 // What lies in another face than the tables say, and boxes.
-ghost use Rattle.std.specs.Prelude.{◌≡◌, ◌∷◌, [], ◌++◌, ◌||◌, ◌==◌, ℕ, not, List, length, map, if◌then◌else◌, Option, Some, IfOk, OnOk, vec_len};
+ghost use Rattle.std.specs.Prelude.{◌≡◌, ◌<◌, ◌∷◌, [], ◌++◌, ◌||◌, ◌==◌, ℕ, true, false, not, List, All, flat_map, length, map, reverse, if◌then◌else◌, Option, Some, None, IfOk, OnOk, vec_len};
 ghost use Rattle.std.specs.Int.{int_max, int_min};
+ghost use Rattle.topo_base.specs.Darts.{same_way};
+ghost use Rattle.topo_base.specs.Point.{Point};
 ghost use Rattle.topo_base.specs.declared.rows.Box4.{Box4 as BoxValue};
 ghost use Rattle.topo_base.specs.declared.rows.FaceRow.{FaceRow as FaceValue};
+ghost use Rattle.drawing.specs.Ring.{is_hole};
 ghost use Rattle.drawing.specs.Tables.{box_at, drawn_edge, has_side, universal_face, wider as wider_box};
-ghost use Rattle.validate_topology.specs.declared.lines.ReportLine.{ReportLine as LineValue};
+ghost use Rattle.slab_index.specs.Pieces.{AreTogether, pieces_of_all};
 ghost use Rattle.validate_topology.specs.declared.lines.ReportLine.TheVariants.{FaceBoxWrong};
 ghost use Rattle.validate_topology.specs.BoxLines.{box_beside, box_of_all, box_with, equal_boxes, least_of, same_box, wrong_boxes};
+ghost use Rattle.validate_topology.specs.FaceAbove.{TellsFaces};
+ghost use Rattle.validate_topology.specs.Following.{half_edge};
 ghost use Rattle.validate_topology.specs.OnlyIf.{only_if};
+ghost use Rattle.validate_topology.specs.PlaceLines.{hole_elsewhere as line_elsewhere, hole_line as line_of_hole, hole_lines as lines_of_holes, node_line as line_of_node, node_lines as lines_of_nodes};
+ghost use Rattle.validate_topology.specs.Walks.{IsWalk, ring_in};
 
-use crate::above::faces_above;
+use crate::above::{face_above, index_of};
 use crate::lines::{Report, ReportLine};
-use crate::sides::{dart_of, left_of};
+use crate::sides::{Side, dart_of, left_of};
 use crate::table::Rows;
 use crate::walks::Walk;
+use slab_index::SlabIndex;
 use std::alloc::Global;
-use topo_base::{Box4, Dart, EdgeRow, FaceId, FaceRow, Grid, Memory, NodeRow};
+use std::sync::ledger::Ledger;
+use topo_base::{Box4, EdgeRow, FaceId, FaceRow, Grid, Memory, NodeRow, Steps};
 
-/// A ring that is a hole: its least dart, its face and its top vertex.
-#[derive(Clone, Copy)]
-struct Hole {
-    dart: Dart,
-    face: FaceId,
-    top: Grid,
+/// The line of a hole that begins with this dart, if this face isn't its own.
+fn hole_elsewhere(side: &Side<'_>, face: FaceId, report: &mut Report) -> Result<(), Memory>
+    ensures { OnOk result (report.new ≡ report.old ++ line_elsewhere (half_edge side.now) face) }
+{
+    let own = left_of(side);
+    let dart = dart_of(side);
+    report.push_if(own.0 != face.0, ReportLine::HoleInOtherFace { dart, face })
 }
 
-/// Puts a ring behind others, where it is a hole and its least dart is walked in this direction.
-fn push_hole(holes: &mut Vec<Hole>, walk: &Walk<'_>, is_forward: bool) -> Result<(), Memory> {
-    if let Some(side) = walk.sides.first()
-        && !walk.is_shell
-        && side.is_forward == is_forward
-    {
-        holes.push(Hole {
-            dart: dart_of(side),
-            face: left_of(side),
-            top: walk.top,
-        })?;
+/// Whether the dart is walked in this direction.
+fn is_walked(side: &Side<'_>, is_forward: bool) -> bool
+    ensures { result ≡ same_way (half_edge side.now).is_forward is_forward }
+{
+    if side.is_forward {
+        is_forward
+    } else {
+        !is_forward
     }
+}
+
+/// The line of a hole, where it begins with a dart that is walked in this direction.
+fn begun_hole<L: Ledger>(
+    edges: &Rows<EdgeRow>,
+    index: &SlabIndex,
+    walk: &Walk<'_>,
+    is_forward: bool,
+    report: &mut Report,
+    steps: &mut Steps<L>,
+) -> Result<(), Memory>
+    requires index { AreTogether index.now.kept (pieces_of_all edges.now) [] }
+    requires walk { IsWalk walk.now }
+    requires some { 0 < length walk.now.sides.items }
+    requires hole { is_hole (ring_in walk.now) ≡ true }
+    ensures { OnOk result ((above : Point → ℕ) → TellsFaces edges.now above → report.new ≡ report.old ++ line_of_hole above is_forward (ring_in walk.now)) }
+{
+    let side = &walk.sides[0];
+    if !is_walked(side, is_forward) {
+        return Ok(());
+    }
+    let face = face_above(edges, index, walk.top, steps);
+    hole_elsewhere(side, face, report)?;
     Ok(())
 }
 
-fn push_backward(holes: &mut Vec<Hole>, walks: &[Walk<'_>]) -> Result<(), Memory> {
-    for index in (0..walks.len()).rev() {
-        push_hole(holes, &walks[index], false)?;
+/// The line of a ring, where it is a hole and begins with a dart that is walked in this direction.
+fn hole_line<L: Ledger>(
+    edges: &Rows<EdgeRow>,
+    index: &SlabIndex,
+    walk: &Walk<'_>,
+    is_forward: bool,
+    report: &mut Report,
+    steps: &mut Steps<L>,
+) -> Result<(), Memory>
+    requires index { AreTogether index.now.kept (pieces_of_all edges.now) [] }
+    requires walk { IsWalk walk.now }
+    ensures { OnOk result ((above : Point → ℕ) → TellsFaces edges.now above → report.new ≡ report.old ++ line_of_hole above is_forward (ring_in walk.now)) }
+{
+    if walk.is_shell {
+        return Ok(());
     }
+    if walk.sides.is_empty() {
+        return Ok(());
+    }
+    begun_hole(edges, index, walk, is_forward, report, steps)?;
     Ok(())
 }
 
-fn push_forward(holes: &mut Vec<Hole>, walks: &[Walk<'_>]) -> Result<(), Memory> {
-    for walk in walks {
-        push_hole(holes, walk, true)?;
-    }
-    Ok(())
-}
-
-/// The holes, by the signed numbers of their least darts.
-fn holes_of(alloc: Global, walks: &[Walk<'_>]) -> Result<Vec<Hole>, Memory> {
-    let mut holes = Vec::new(alloc);
-    push_backward(&mut holes, walks)?;
-    push_forward(&mut holes, walks)?;
-    Ok(holes)
-}
-
-fn tops_of(alloc: Global, holes: &[Hole]) -> Result<Vec<Grid>, Memory> {
-    let mut tops = Vec::with_capacity(alloc, holes.len())?;
-    for hole in holes {
-        tops.push(hole.top)?;
-    }
-    Ok(tops)
-}
-
-fn holes_in_other_face(
-    alloc: Global,
-    edges: &[EdgeRow],
+/// The lines of the holes that begin with a dart that is walked back, from the last to the first.
+fn backward_holes<L: Ledger>(
+    edges: &Rows<EdgeRow>,
+    index: &SlabIndex,
     walks: &[Walk<'_>],
     report: &mut Report,
-) -> Result<(), Memory> {
-    let holes = holes_of(alloc, walks)?;
-    let tops = tops_of(alloc, &holes)?;
-    let faces = faces_above(alloc, edges, &tops)?;
-    for (hole, face) in holes.iter().zip(&faces) {
-        let face = *face;
-        let (dart, own) = (hole.dart, hole.face);
-        let wrong = own.0 != face.0;
-        report.push_if(wrong, ReportLine::HoleInOtherFace { dart, face })?;
+    steps: &mut Steps<L>,
+) -> Result<(), Memory>
+    requires index { AreTogether index.now.kept (pieces_of_all edges.now) [] }
+    requires walks { All IsWalk walks.now }
+    ensures { OnOk result ((above : Point → ℕ) → TellsFaces edges.now above → report.new ≡ report.old ++ flat_map (line_of_hole above false) (reverse (map ring_in walks.now))) }
+{
+    let mut left = walks.len();
+    while left > 0 {
+        left -= 1;
+        hole_line(edges, index, &walks[left], false, report, steps)?;
     }
     Ok(())
 }
 
-/// The isolated nodes: each has a containing face.
-fn isolated_nodes(alloc: Global, nodes: &[NodeRow]) -> Result<Vec<NodeRow>, Memory> {
-    let mut isolated = Vec::new(alloc);
-    for row in nodes {
-        if row.containing_face.is_some() {
-            isolated.push(*row)?;
-        }
+/// The lines of the other holes.
+fn forward_holes<L: Ledger>(
+    edges: &Rows<EdgeRow>,
+    index: &SlabIndex,
+    walks: &[Walk<'_>],
+    report: &mut Report,
+    steps: &mut Steps<L>,
+) -> Result<(), Memory>
+    requires index { AreTogether index.now.kept (pieces_of_all edges.now) [] }
+    requires walks { All IsWalk walks.now }
+    ensures { OnOk result ((above : Point → ℕ) → TellsFaces edges.now above → report.new ≡ report.old ++ flat_map (line_of_hole above true) (map ring_in walks.now)) }
+{
+    for walk in walks {
+        hole_line(edges, index, walk, true, report, steps)?;
     }
-    Ok(isolated)
+    Ok(())
 }
 
-fn points_of(alloc: Global, nodes: &[NodeRow]) -> Result<Vec<Grid>, Memory> {
-    let mut points = Vec::with_capacity(alloc, nodes.len())?;
-    for row in nodes {
-        points.push(row.geom)?;
-    }
-    Ok(points)
+/// The lines of all holes, by the signed numbers of their least darts.
+fn holes_elsewhere<L: Ledger>(
+    edges: &Rows<EdgeRow>,
+    index: &SlabIndex,
+    walks: &[Walk<'_>],
+    report: &mut Report,
+    steps: &mut Steps<L>,
+) -> Result<(), Memory>
+    requires index { AreTogether index.now.kept (pieces_of_all edges.now) [] }
+    requires walks { All IsWalk walks.now }
+    ensures { OnOk result ((above : Point → ℕ) → TellsFaces edges.now above → report.new ≡ report.old ++ lines_of_holes above (map ring_in walks.now)) }
+{
+    backward_holes(edges, index, walks, report, steps)?;
+    forward_holes(edges, index, walks, report, steps)?;
+    Ok(())
 }
 
-/// Whether the node has a containing face, and it is another one.
-fn is_in_other(row: &NodeRow, face: FaceId) -> bool {
-    match row.containing_face {
-        None => false,
-        Some(containing) => containing.0 != face.0,
-    }
+/// Whether these are two faces.
+fn differ(one: FaceId, other: FaceId) -> bool
+    ensures { result ≡ not (one == other) }
+{
+    one.0 != other.0
 }
 
-fn nodes_in_other_face(
-    alloc: Global,
-    edges: &[EdgeRow],
+/// The line of a node, where it has a containing face.
+fn node_line<L: Ledger>(
+    edges: &Rows<EdgeRow>,
+    index: &SlabIndex,
+    row: &NodeRow,
+    report: &mut Report,
+    steps: &mut Steps<L>,
+) -> Result<(), Memory>
+    requires { AreTogether index.now.kept (pieces_of_all edges.now) [] }
+    ensures { OnOk result ((above : Point → ℕ) → TellsFaces edges.now above → report.new ≡ report.old ++ line_of_node above row.now row.now.containing_face) }
+{
+    let Some(own) = row.containing_face else {
+        return Ok(());
+    };
+    let node = row.node_id;
+    let face = face_above(edges, index, row.geom, steps);
+    let wrong = differ(own, face);
+    report.push_if(wrong, ReportLine::NodeInOtherFace { node, face })?;
+    Ok(())
+}
+
+fn nodes_elsewhere<L: Ledger>(
+    edges: &Rows<EdgeRow>,
+    index: &SlabIndex,
     nodes: &[NodeRow],
     report: &mut Report,
-) -> Result<(), Memory> {
-    let isolated = isolated_nodes(alloc, nodes)?;
-    let points = points_of(alloc, &isolated)?;
-    let faces = faces_above(alloc, edges, &points)?;
-    for (row, face) in isolated.iter().zip(&faces) {
-        let (node, face) = (row.node_id, *face);
-        let wrong = is_in_other(row, face);
-        report.push_if(wrong, ReportLine::NodeInOtherFace { node, face })?;
+    steps: &mut Steps<L>,
+) -> Result<(), Memory>
+    requires { AreTogether index.now.kept (pieces_of_all edges.now) [] }
+    ensures { OnOk result ((above : Point → ℕ) → TellsFaces edges.now above → report.new ≡ report.old ++ lines_of_nodes above nodes.now) }
+{
+    for row in nodes {
+        node_line(edges, index, row, report, steps)?;
     }
     Ok(())
 }
@@ -330,17 +390,22 @@ fn face_boxes_wrong(
 }
 
 /// The lines on what lies in another face, and on boxes.
-pub fn place_lines(
+pub fn place_lines<L: Ledger>(
     alloc: Global,
-    edges: &[EdgeRow],
+    edges: &Rows<EdgeRow>,
     nodes: &[NodeRow],
     faces: &Rows<FaceRow>,
     walks: &[Walk<'_>],
     report: &mut Report,
+    steps: &mut Steps<L>,
 ) -> Result<(), Memory>
-    ensures { OnOk result ((places : List LineValue) × (report.new ≡ places ++ wrong_boxes (least_of (map drawn_edge edges.now)) (universal_face ∷ faces.now))) }
+    requires { All IsWalk walks.now }
+    ensures { OnOk result ((above : Point → ℕ) → TellsFaces edges.now above → report.new ≡ report.old ++ lines_of_holes above (map ring_in walks.now) ++ lines_of_nodes above nodes.now ++ wrong_boxes (least_of (map drawn_edge edges.now)) (universal_face ∷ faces.now)) }
 {
-    holes_in_other_face(alloc, edges, walks, report)?;
-    nodes_in_other_face(alloc, edges, nodes, report)?;
-    face_boxes_wrong(alloc, edges, faces, report)
+    let listed = edges.rows();
+    let index = index_of(alloc, listed)?;
+    holes_elsewhere(edges, &index, walks, report, steps)?;
+    nodes_elsewhere(edges, &index, nodes, report, steps)?;
+    face_boxes_wrong(alloc, listed, faces, report)?;
+    Ok(())
 }

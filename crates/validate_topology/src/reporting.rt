@@ -1,6 +1,7 @@
 // The stages of a report.
-ghost use Rattle.std.specs.Prelude.{◌≡◌, ◌<◌, [], ◌++◌, OnOk, IfOk};
+ghost use Rattle.std.specs.Prelude.{◌≡◌, ◌<◌, [], ◌++◌, IsTrue, OnOk, IfOk};
 ghost use Rattle.drawing.specs.Plain.{IsPlain};
+ghost use Rattle.drawing.specs.Subdivision.{faces_have_shells, rings_have_one_face};
 ghost use Rattle.drawing.specs.Tables.{drawn};
 ghost use Rattle.validate_topology.specs.PlainLines.{HasPlainLines};
 ghost use Rattle.validate_topology.specs.Raw.{tables_in};
@@ -72,7 +73,12 @@ fn reference_lines(alloc: Global, raw: &RawTables, report: &mut Report) -> Resul
 }
 
 /// The lines on rings and faces, of tables with right references and plain lines.
-fn face_lines(alloc: Global, raw: &RawTables, report: &mut Report) -> Result<(), Memory>
+fn face_lines<L: Ledger>(
+    alloc: Global,
+    raw: &RawTables,
+    report: &mut Report,
+    steps: &mut Steps<L>,
+) -> Result<(), Memory>
     requires none { report.old ≡ [] }
     requires references { AreReferenceLines (tables_in raw.now) [] }
     requires points { HasPlainLines (tables_in raw.now) [] }
@@ -91,7 +97,8 @@ fn face_lines(alloc: Global, raw: &RawTables, report: &mut Report) -> Result<(),
     if !report.is_empty() {
         return Ok(());
     }
-    place_lines(alloc, edges, raw.nodes.rows(), &raw.faces, &walks, report)?;
+    let nodes = raw.nodes.rows();
+    place_lines(alloc, &raw.edges, nodes, &raw.faces, &walks, report, steps)?;
     Ok(())
 }
 
@@ -111,16 +118,17 @@ fn counted_report<L: Ledger>(alloc: Global, raw: &RawTables, blank: Blank) -> Re
     if !report.is_empty() {
         return Ok(report);
     }
-    face_lines(alloc, raw, &mut report)?;
+    face_lines(alloc, raw, &mut report, &mut steps)?;
     Ok(report)
 }
 
-/// What is wrong with the tables, and where: the lines of the first stage that has any. Those of the first three
-/// stages are exactly those of the definition, and so are those on boxes. Tables without lines stand for a plain
-/// drawing.
+/// What is wrong with the tables, and where: exactly the lines of the first stage that has any. Tables without lines
+/// stand for a plain drawing whose rings have one face each, and whose faces have one shell each and face 0 none.
 pub fn report(alloc: Global, raw: &RawTables) -> Result<Report, Memory>
     ensures lines { IfOk result (IsReport (tables_in raw.now)) }
     ensures plain { IfOk result (λ r. r ≡ [] → IsPlain (drawn (tables_in raw.now))) }
+    ensures rings { IfOk result (λ r. r ≡ [] → IsTrue (rings_have_one_face (drawn (tables_in raw.now)))) }
+    ensures shells { IfOk result (λ r. r ≡ [] → IsTrue (faces_have_shells (drawn (tables_in raw.now)))) }
 {
     let _ = raw.nodes.rows();
     counted_report::<Brand>(alloc, raw, Blank::new(1))

@@ -1,8 +1,10 @@
 // The darts about each node in clockwise order, and so the dart that is next after each.
-ghost use Rattle.std.specs.Prelude.{◌≡◌, ℕ, ◌+◌, ◌*◌, ◌^◌, ◌<◌, ◌≤◌, ◌++◌, ◌==◌, ◌∷◌, [], List, length, map, vec_len, slice_index_or, if◌then◌else◌, All, IfOk, OnOk};
+ghost use Rattle.std.specs.Prelude.{◌≡◌, ℕ, ◌+◌, ◌*◌, ◌^◌, ◌<◌, ◌≤◌, ◌++◌, ◌==◌, ◌∷◌, [], List, length, map, vec_len, slice_index_or, if◌then◌else◌, All, IfOk, IsTrue, OnOk};
 ghost use Rattle.std.specs.Ordering.{is_lt};
 ghost use Rattle.topo_base.specs.declared.rows.EdgeRow.{EdgeRow as EdgeValue};
 ghost use Rattle.drawing.specs.Star.{leaving as leaving_of};
+ghost use Rattle.drawing.specs.Tables.{drawn_edge};
+ghost use Rattle.drawing.specs.Vertices.{have_segments};
 ghost use Rattle.validate_topology.specs.Following.{AreNext, ArePlainEdges, AreSpokes, HasRowAt, IsSpokeOf, goes_on, half_edge, half_edges_of, some_direction, spoke_less};
 ghost use Rattle.validate_topology.specs.declared.stars.Spoke.{Spoke as SpokeValue};
 
@@ -148,6 +150,7 @@ pub fn followers_of(alloc: Global, edges: &[EdgeRow]) -> Result<Followers, Memor
     requires { ArePlainEdges edges.now }
     ensures len { IfOk result (λ f. length f ≡ 2 * length edges.now) }
     ensures next { IfOk result (λ f. AreNext (half_edges_of edges.now) f) }
+    ensures long { IfOk result (λ _. IsTrue (have_segments (map drawn_edge edges.now))) }
 {
     let spokes = spokes_of(alloc, edges)?;
     let mut places = vec![in alloc; 0; spokes.len()]?;

@@ -1,12 +1,15 @@
 // Rings: the walks from each dart to the next until the first comes back.
-ghost use Rattle.std.specs.Prelude.{◌≡◌, ◌<◌, length, All, IfOk, vec_len};
-ghost use Rattle.validate_topology.specs.Following.{AreWithin};
+ghost use Rattle.std.specs.Prelude.{◌≡◌, ◌<◌, ◌≤◌, ◌++◌, not, length, reverse, IfOk, OnOk};
+ghost use Rattle.plane.specs.ClosedWalk.{closed_segments, is_hole_walk, top_of as top_along};
+ghost use Rattle.face_parts.specs.Paths.{without_last};
+ghost use Rattle.validate_topology.specs.Following.{half_edge};
+ghost use Rattle.validate_topology.specs.Walks.{AreFollowed, AreWalks, IsRingAt, MarksRing, halves_of, path_along};
 
 use crate::sides::Side;
 use crate::stars::Followers;
 use grid_rays::{Ring, is_shell, top_vertex};
 use std::alloc::Global;
-use topo_base::{Grid, Memory};
+use topo_base::{Grid, Line, Memory};
 
 /// A ring: its darts, the least one first, whether it is a shell, and its top vertex.
 #[derive(Drop)]
@@ -16,51 +19,76 @@ pub struct Walk<'a> {
     pub top: Grid,
 }
 
-/// The places of the darts from one on until it comes back.
-fn ring_from(alloc: Global, followers: &Followers, first: usize) -> Result<Vec<usize>, Memory>
-    requires { first < length followers.now }
-    ensures { IfOk result (λ v. AreWithin (length followers.now) v.items) }
-{
-    let mut places = Vec::new(alloc);
-    let mut here = first;
-    for _step in 0..followers.len() {
-        places.push(here)?;
-        here = followers.next(here);
-        if here == first {
-            break;
-        }
-    }
-    Ok(places)
-}
-
-/// The darts at these places.
-fn sides_at<'a>(
+/// The darts from the one at a place on until it comes back. Marks their places.
+fn ring_from<'a>(
     alloc: Global,
     sides: &[Side<'a>],
-    places: &[usize],
+    followers: &Followers,
+    first: usize,
+    seen: &mut [bool],
 ) -> Result<Vec<Side<'a>>, Memory>
-    requires { AreWithin (length sides.now) places.now }
+    requires first { first < length sides.now }
+    requires len { length seen.old ≡ length sides.now }
+    requires followed { AreFollowed (halves_of sides.now) followers.now }
+    ensures ring { IfOk result (λ v. IsRingAt (halves_of sides.now) first v.items) }
+    ensures marks { IfOk result (λ v. MarksRing (halves_of sides.now) v.items seen.old seen.new) }
 {
-    let mut ring = Vec::with_capacity(alloc, places.len())?;
-    for place in places {
-        ring.push(sides[*place])?;
+    let mut ring = Vec::new(alloc);
+    let mut here = first;
+    loop {
+        ring.push(sides[here])?;
+        seen[here] = true;
+        here = followers.next(here);
+        if here == first {
+            return Ok(ring);
+        }
     }
-    Ok(ring)
 }
 
-/// Puts the vertices of a dart behind others, without the last.
-fn push_walked(path: &mut Vec<Grid>, side: &Side<'_>) -> Result<(), Memory> {
-    let vertices = side.row.geom.vertices();
-    let last = vertices.len() - 1;
-    for index in 0..last {
-        let at = if side.is_forward { index } else { last - index };
-        path.push(vertices[at])?;
+/// Puts the vertices of a line behind others, without its last.
+fn push_forward(path: &mut Vec<Grid>, line: &Line) -> Result<(), Memory>
+    ensures { OnOk result (path.new.items ≡ path.old.items ++ without_last line.now) }
+{
+    let vertices = line.vertices();
+    let (front, _) = vertices.split_at(vertices.len() - 1);
+    path.extend_from_slice(front)?;
+    Ok(())
+}
+
+fn push_reversed(path: &mut Vec<Grid>, vertices: &[Grid]) -> Result<(), Memory>
+    ensures { OnOk result (path.new.items ≡ path.old.items ++ reverse vertices.now) }
+{
+    let mut left = vertices.len();
+    while left > 0 {
+        left -= 1;
+        path.push(vertices[left])?;
     }
     Ok(())
 }
 
+/// Puts the vertices of a line behind others, the last first, and without its first.
+fn push_backward(path: &mut Vec<Grid>, line: &Line) -> Result<(), Memory>
+    ensures { OnOk result (path.new.items ≡ path.old.items ++ without_last (reverse line.now)) }
+{
+    let (_, behind) = line.vertices().split_at(1);
+    push_reversed(path, behind)
+}
+
+/// Puts the vertices of a dart behind others, without the last.
+fn push_walked(path: &mut Vec<Grid>, side: &Side<'_>) -> Result<(), Memory>
+    ensures { OnOk result (path.new.items ≡ path.old.items ++ without_last ((half_edge side.now).points)) }
+{
+    if side.is_forward {
+        push_forward(path, &side.row.geom)
+    } else {
+        push_backward(path, &side.row.geom)
+    }
+}
+
 /// The vertices of the closed walk along these darts.
-fn path_of(alloc: Global, sides: &[Side<'_>]) -> Result<Vec<Grid>, Memory> {
+fn path_of(alloc: Global, sides: &[Side<'_>]) -> Result<Vec<Grid>, Memory>
+    ensures { IfOk result (λ path. path.items ≡ path_along (halves_of sides.now)) }
+{
     let mut path = Vec::new(alloc);
     for side in sides {
         push_walked(&mut path, side)?;
@@ -69,27 +97,26 @@ fn path_of(alloc: Global, sides: &[Side<'_>]) -> Result<Vec<Grid>, Memory> {
 }
 
 /// The top vertex of a closed walk.
-fn top_of(ring: &Ring) -> Grid {
+fn top_of(ring: &Ring) -> Grid
+    ensures { result ≡ top_along (closed_segments ring.now) }
+{
     ring.vertices()[top_vertex(ring)]
 }
 
-/// The ring of these darts. A walk of fewer than two vertices is none.
-fn walk_of<'a>(alloc: Global, sides: Vec<Side<'a>>) -> Result<Option<Walk<'a>>, Memory> {
+/// The ring of these darts.
+fn walk_of<'a>(alloc: Global, sides: Vec<Side<'a>>) -> Result<Walk<'a>, Memory>
+    requires { 2 ≤ length (path_along (halves_of sides.items)) }
+    ensures sides { IfOk result (λ w. w.sides ≡ sides.entry) }
+    ensures shell { IfOk result (λ w. w.is_shell ≡ not (is_hole_walk (closed_segments (path_along (halves_of sides.entry.items))))) }
+    ensures top { IfOk result (λ w. w.top ≡ top_along (closed_segments (path_along (halves_of sides.entry.items)))) }
+{
     match Ring::of(path_of(alloc, &sides)?) {
-        Ok(ring) => Ok(Some(Walk {
+        Ok(ring) => Ok(Walk {
             sides,
             is_shell: is_shell(&ring),
             top: top_of(&ring),
-        })),
-        Err(_) => Ok(None),
-    }
-}
-
-fn mark(places: &[usize], seen: &mut [bool])
-    requires { AreWithin (length seen.old) places.now }
-{
-    for place in places {
-        seen[*place] = true;
+        }),
+        Err(_) => unreachable!(),
     }
 }
 
@@ -99,19 +126,17 @@ pub fn walks_of<'a>(
     sides: &[Side<'a>],
     followers: &Followers,
 ) -> Result<Vec<Walk<'a>>, Memory>
-    requires { length followers.now ≡ length sides.now }
+    requires { AreFollowed (halves_of sides.now) followers.now }
+    ensures { IfOk result (λ walks. AreWalks (halves_of sides.now) walks.items) }
 {
-    let mut seen = vec![in alloc; false; followers.len()]?;
+    let mut seen = vec![in alloc; false; sides.len()]?;
     let mut walks = Vec::new(alloc);
-    for place in 0..followers.len() {
+    for place in 0..sides.len() {
         if seen[place] {
             continue;
         }
-        let places = ring_from(alloc, followers, place)?;
-        mark(&places, &mut seen);
-        if let Some(walk) = walk_of(alloc, sides_at(alloc, sides, &places)?)? {
-            walks.push(walk)?;
-        }
+        let ring = ring_from(alloc, sides, followers, place, &mut seen)?;
+        walks.push(walk_of(alloc, ring)?)?;
     }
     Ok(walks)
 }

@@ -4,7 +4,8 @@ use Rattle.drawing.specs.Drawing.{Drawing}
 use Rattle.drawing.specs.Tables.{drawn_edge}
 use Rattle.validate_topology.specs.Following.{goes_on, half_edges_of}
 use Rattle.validate_topology.specs.declared.stars.Spoke.{Spoke}
-use Rattle.validate_topology.proofs.NextPlaces.{IsBegun, all_next, begun_next, next_first, no_spoke, right_step, spoke_at, spokes_long}
+use Rattle.validate_topology.proofs.AllRings.{long_lines}
+use Rattle.validate_topology.proofs.NextPlaces.{IsBegun, all_next, begun_next, has_lines, next_first, no_spoke, right_step, spoke_at, spokes_long}
 use Rattle.validate_topology.proofs.SpokePlaces.{halves_length}
 use Rattle.validate_topology.proofs.stars.followers_of.Goals as goal
 
@@ -70,3 +71,9 @@ returns-clause-next c =
     let long = spokes_long hs ss a in
     all_next S ss no_spoke c.loop-index.places.items c.requires.plain a
     (λ j d below. c.loop-index.invariant.right no_spoke j d (omega (arith, below, c.loop-index-test.false, c.len-index-end.ensures, size, wide, long)))
+
+pub returns-clause-long : goal.returns-clause-long
+returns-clause-long c =
+    let of = c.requires.of in
+    let S : Drawing = record of { edges = map drawn_edge c.args.edges.now } in
+    long_lines S (has_lines S c.in_ok-spokes.spokes.items c.requires.plain c.in_ok-spokes.ensures.spokes)
