@@ -21,9 +21,12 @@ use Rattle.topo.specs.Views.{SourceView, SinkView, DiskView}
 use Rattle.topo.specs.Output.{Says, said, unsaid, Tells, says, no_memory, IsCutBy, Prints, printed, print_cut, report_status}
 use Rattle.validate_topology.specs.declared.lines.ReportLine.{ReportLine}
 use Rattle.topo.specs.Run.{is_disk_fault, has_fault, faults_of, faults_in, RoseBy, status_of}
-use Rattle.topo.specs.Statuses.{HasInput, HasForm, Means, runs_well, has_other_words, has_bad_line, has_bad_gate, source_failed, sink_failed, disk_failed, wants_memory, is_too_long, checks_dump, MeansOfDump, is_reported, has_bad_dump_line, dump_source_failed, dump_sink_failed, dump_wants_memory, dump_is_too_long, IsGoodInput, IsComplete}
+use Rattle.validate_topology.specs.declared.raw.RawTables.{RawTables}
+use Rattle.table_dump.specs.Dump.{IsDump, IsFirstBad as IsFirstBadLine}
+use Rattle.table_dump.proofs.Dumps.{dumps_apart, dumps_good}
+use Rattle.topo.specs.Statuses.{HasInput, HasForm, Means, runs_well, has_other_words, has_bad_line, has_bad_gate, source_failed, sink_failed, disk_failed, wants_memory, is_too_long, checks_dump, MeansOfDump, is_reported, has_bad_dump_line, dump_source_failed, dump_sink_failed, dump_wants_memory, dump_is_too_long, IsReportStatus, IsGoodInput, IsComplete}
 use Rattle.topo.proofs.Readings.{stands_not_bad}
-use Rattle.topo.specs.Endings.{max_source, standard, WasRead, WasRecovered, Unrecovered, no_journal, disk_fault, not_recovered, RunsScript, ran_whole, ran_cut, RunsOn, nothing_read, ran, Applied, source_fault, too_long, not_read, no_script, bad_line, had_script, Showed, nothing_shown, showed, Checked, dump_fault, dump_too_long, dump_not_read, bad_dump_line, no_report, reported, Ending, bad_words, applied, shows, checks}
+use Rattle.topo.specs.Endings.{max_source, standard, WasRead, WasRecovered, Unrecovered, no_journal, disk_fault, not_recovered, RunsScript, ran_whole, ran_cut, RunsOn, nothing_read, ran, Applied, source_fault, too_long, not_read, no_script, bad_line, had_script, Showed, nothing_shown, showed, IsReportOn, ReportsOn, no_report, reported, Checked, dump_fault, dump_too_long, dump_not_read, no_tables, bad_dump_line, had_dump, Ending, bad_words, applied, shows, checks}
 
 -- ---- what holds of what the source told
 pub at_some : (P : List ℕ → Type 0) (o : Option (List ℕ)) (bytes : List ℕ) → o ≡ Some bytes → IfSome o P → P bytes
@@ -112,20 +115,20 @@ said_of_dump : (from to : SourceView) (old new : SinkView) (text : List ℕ) (st
 said_of_dump from to old new text status result (said is p) then' = then' is
 said_of_dump from to old new text status result (unsaid is rose p) then' = dump_sink_failed is rose
 
-report_status_small : (lines : List ReportLine) (result : ℕ) → result ≡ report_status lines → result ≤ 1
-report_status_small [] result e = omega arith
-report_status_small (line ∷ lines) result e = omega arith
+reported_means : (from to : SourceView) (old new : SinkView) (result : ℕ) (raw : RawTables) → WasRead (λ bytes. IsDump bytes raw) from to → ReportsOn raw old new result → MeansOfDump from to old new result
+reported_means from to old new result raw read (no_report is p) = dump_wants_memory is
+reported_means from to old new result raw read (reported lines on (printed is p calm)) = is_reported raw (lines, on, is) read
+reported_means from to old new result raw read (reported lines on (print_cut (inl failed) p)) = dump_sink_failed failed.0 failed.1
+reported_means from to old new result raw read (reported lines on (print_cut (inr is) p)) = dump_wants_memory is
 
 checked_means : (from to : SourceView) (old new : SinkView) (result : ℕ) → Checked from to old new result → MeansOfDump from to old new result
 checked_means from to old new result (dump_fault rose h) = said_of_dump from to old new _ 5 result h (λ is. dump_source_failed is rose)
 checked_means from to old new result (dump_too_long more h) = said_of_dump from to old new _ 9 result h (λ is. dump_is_too_long is more)
 checked_means from to old new result (dump_not_read is p) = dump_wants_memory is
-checked_means from to old new result (bad_dump_line n read (says h)) = said_of_dump from to old new _ 3 result h (λ is. has_bad_dump_line is read)
+checked_means from to old new result (no_tables read is p) = dump_wants_memory is
+checked_means from to old new result (bad_dump_line n read (says h)) = said_of_dump from to old new _ 3 result h (λ is. has_bad_dump_line is n read)
 checked_means from to old new result (bad_dump_line n read (no_memory is p)) = dump_wants_memory is
-checked_means from to old new result (no_report read is p) = dump_wants_memory is
-checked_means from to old new result (reported lines read (printed is p calm)) = is_reported (report_status_small lines result is) read
-checked_means from to old new result (reported lines read (print_cut (inl failed) p)) = dump_sink_failed failed.0 failed.1
-checked_means from to old new result (reported lines read (print_cut (inr is) p)) = dump_wants_memory is
+checked_means from to old new result (had_dump raw read h) = reported_means from to old new result raw read h
 
 pub means : (words : List (List ℕ)) (came kept : Type 0) (from to : SourceView) (old new : SinkView) (before behind : DiskView) (result : ℕ) → Ending words came kept from to old new before behind result
     → Means words from to old new before behind result
@@ -260,30 +263,49 @@ long_dumps_end words from to old new before behind result (sink_failed is rose) 
 long_dumps_end words from to old new before behind result (disk_failed is good rose) bytes c e more calm = absurd (not_form words good.0 c good.1)
 long_dumps_end words from to old new before behind result (wants_memory is f) bytes c e more calm = inr (inr is)
 long_dumps_end words from to old new before behind result (is_too_long is f some) bytes c e more calm = absurd (not_form words Apply c f)
-long_dumps_end words from to old new before behind result (checks_dump check (is_reported is read)) bytes c e more calm = absurd (short_and_long from.left bytes max_source e read.short more)
-long_dumps_end words from to old new before behind result (checks_dump check (has_bad_dump_line is read)) bytes c e more calm = absurd (short_and_long from.left bytes max_source e read.short more)
+long_dumps_end words from to old new before behind result (checks_dump check (is_reported raw status read)) bytes c e more calm = absurd (short_and_long from.left bytes max_source e read.short more)
+long_dumps_end words from to old new before behind result (checks_dump check (has_bad_dump_line is n read)) bytes c e more calm = absurd (short_and_long from.left bytes max_source e read.short more)
 long_dumps_end words from to old new before behind result (checks_dump check (dump_source_failed is rose)) bytes c e more calm = absurd (calm rose)
 long_dumps_end words from to old new before behind result (checks_dump check (dump_sink_failed is rose)) bytes c e more calm = inr (inl is)
 long_dumps_end words from to old new before behind result (checks_dump check (dump_wants_memory is)) bytes c e more calm = inr (inr is)
 long_dumps_end words from to old new before behind result (checks_dump check (dump_is_too_long is some)) bytes c e more calm = inl is
 
-short_dumps_end : (words : List (List ℕ)) (from to : SourceView) (old new : SinkView) (before behind : DiskView) (result : ℕ) → Means words from to old new before behind result
-    → (bytes : List ℕ) → IsCheck words → from.left ≡ Some bytes → length bytes ≤ max_source → (Rose from.faults to.faults → ⊥) → (Rose old.faults new.faults → ⊥) → (result ≤ 1) ⊎ ((result ≡ 3) ⊎ (result ≡ 8))
-short_dumps_end words from to old new before behind result (runs_well is good read rec) bytes c e short calm quiet = inl is
-short_dumps_end words from to old new before behind result (has_other_words is other none) bytes c e short calm quiet = absurd (none c)
-short_dumps_end words from to old new before behind result (has_bad_line is f k read) bytes c e short calm quiet = inr (inl is)
-short_dumps_end words from to old new before behind result (has_bad_gate is good at gate) bytes c e short calm quiet = absurd (not_form words good.0 c good.1)
-short_dumps_end words from to old new before behind result (source_failed is f rose) bytes c e short calm quiet = absurd (calm rose)
-short_dumps_end words from to old new before behind result (sink_failed is rose) bytes c e short calm quiet = absurd (quiet rose)
-short_dumps_end words from to old new before behind result (disk_failed is good rose) bytes c e short calm quiet = absurd (not_form words good.0 c good.1)
-short_dumps_end words from to old new before behind result (wants_memory is f) bytes c e short calm quiet = inr (inr is)
-short_dumps_end words from to old new before behind result (is_too_long is f some) bytes c e short calm quiet = absurd (not_form words Apply c f)
-short_dumps_end words from to old new before behind result (checks_dump check (is_reported is read)) bytes c e short calm quiet = inl is
-short_dumps_end words from to old new before behind result (checks_dump check (has_bad_dump_line is read)) bytes c e short calm quiet = inr (inl is)
-short_dumps_end words from to old new before behind result (checks_dump check (dump_source_failed is rose)) bytes c e short calm quiet = absurd (calm rose)
-short_dumps_end words from to old new before behind result (checks_dump check (dump_sink_failed is rose)) bytes c e short calm quiet = absurd (quiet rose)
-short_dumps_end words from to old new before behind result (checks_dump check (dump_wants_memory is)) bytes c e short calm quiet = inr (inr is)
-short_dumps_end words from to old new before behind result (checks_dump check (dump_is_too_long is some)) bytes c e short calm quiet = absurd (not_both from.left bytes max_source e some short)
+bad_dumps_end : (words : List (List ℕ)) (from to : SourceView) (old new : SinkView) (before behind : DiskView) (result : ℕ) → Means words from to old new before behind result
+    → (bytes : List ℕ) (n : ℕ) → IsCheck words → from.left ≡ Some bytes → IsFirstBadLine bytes n → length bytes ≤ max_source → (Rose from.faults to.faults → ⊥) → (result ≡ 3) ⊎ ((result ≡ 6) ⊎ (result ≡ 8))
+bad_dumps_end words from to old new before behind result (runs_well is good read rec) bytes n c e bad short calm = absurd (not_form words good.0 c good.1)
+bad_dumps_end words from to old new before behind result (has_other_words is other none) bytes n c e bad short calm = absurd (none c)
+bad_dumps_end words from to old new before behind result (has_bad_line is f k read) bytes n c e bad short calm = absurd (not_form words Apply c f)
+bad_dumps_end words from to old new before behind result (has_bad_gate is good at gate) bytes n c e bad short calm = absurd (not_form words good.0 c good.1)
+bad_dumps_end words from to old new before behind result (source_failed is f rose) bytes n c e bad short calm = absurd (not_form words Apply c f)
+bad_dumps_end words from to old new before behind result (sink_failed is rose) bytes n c e bad short calm = inr (inl is)
+bad_dumps_end words from to old new before behind result (disk_failed is good rose) bytes n c e bad short calm = absurd (not_form words good.0 c good.1)
+bad_dumps_end words from to old new before behind result (wants_memory is f) bytes n c e bad short calm = inr (inr is)
+bad_dumps_end words from to old new before behind result (is_too_long is f some) bytes n c e bad short calm = absurd (not_form words Apply c f)
+bad_dumps_end words from to old new before behind result (checks_dump check (is_reported raw status read)) bytes n c e bad short calm = absurd (dumps_good bytes raw n (at_some (λ bs. IsDump bs raw) from.left bytes e read.told) bad)
+bad_dumps_end words from to old new before behind result (checks_dump check (has_bad_dump_line is k read)) bytes n c e bad short calm = inl is
+bad_dumps_end words from to old new before behind result (checks_dump check (dump_source_failed is rose)) bytes n c e bad short calm = absurd (calm rose)
+bad_dumps_end words from to old new before behind result (checks_dump check (dump_sink_failed is rose)) bytes n c e bad short calm = inr (inl is)
+bad_dumps_end words from to old new before behind result (checks_dump check (dump_wants_memory is)) bytes n c e bad short calm = inr (inr is)
+bad_dumps_end words from to old new before behind result (checks_dump check (dump_is_too_long is some)) bytes n c e bad short calm = absurd (not_both from.left bytes max_source e some short)
+
+good_dumps_end : (words : List (List ℕ)) (from to : SourceView) (old new : SinkView) (before behind : DiskView) (result : ℕ) → Means words from to old new before behind result
+    → (bytes : List ℕ) (raw : RawTables) → IsCheck words → from.left ≡ Some bytes → IsDump bytes raw → length bytes ≤ max_source → (Rose from.faults to.faults → ⊥) → (Rose old.faults new.faults → ⊥)
+    → IsReportStatus raw result ⊎ (result ≡ 8)
+good_dumps_end words from to old new before behind result (runs_well is good read rec) bytes raw c e dump short calm quiet = absurd (not_form words good.0 c good.1)
+good_dumps_end words from to old new before behind result (has_other_words is other none) bytes raw c e dump short calm quiet = absurd (none c)
+good_dumps_end words from to old new before behind result (has_bad_line is f k read) bytes raw c e dump short calm quiet = absurd (not_form words Apply c f)
+good_dumps_end words from to old new before behind result (has_bad_gate is good at gate) bytes raw c e dump short calm quiet = absurd (not_form words good.0 c good.1)
+good_dumps_end words from to old new before behind result (source_failed is f rose) bytes raw c e dump short calm quiet = absurd (not_form words Apply c f)
+good_dumps_end words from to old new before behind result (sink_failed is rose) bytes raw c e dump short calm quiet = absurd (quiet rose)
+good_dumps_end words from to old new before behind result (disk_failed is good rose) bytes raw c e dump short calm quiet = absurd (not_form words good.0 c good.1)
+good_dumps_end words from to old new before behind result (wants_memory is f) bytes raw c e dump short calm quiet = inr is
+good_dumps_end words from to old new before behind result (is_too_long is f some) bytes raw c e dump short calm quiet = absurd (not_form words Apply c f)
+good_dumps_end words from to old new before behind result (checks_dump check (is_reported other status read)) bytes raw c e dump short calm quiet = inl (subst (λ r. IsReportStatus r result) (dumps_apart bytes other raw (at_some (λ bs. IsDump bs other) from.left bytes e read.told) dump) status)
+good_dumps_end words from to old new before behind result (checks_dump check (has_bad_dump_line is n read)) bytes raw c e dump short calm quiet = absurd (dumps_good bytes raw n dump (at_some (λ bs. IsFirstBadLine bs n) from.left bytes e read.told))
+good_dumps_end words from to old new before behind result (checks_dump check (dump_source_failed is rose)) bytes raw c e dump short calm quiet = absurd (calm rose)
+good_dumps_end words from to old new before behind result (checks_dump check (dump_sink_failed is rose)) bytes raw c e dump short calm quiet = absurd (quiet rose)
+good_dumps_end words from to old new before behind result (checks_dump check (dump_wants_memory is)) bytes raw c e dump short calm quiet = inr is
+good_dumps_end words from to old new before behind result (checks_dump check (dump_is_too_long is some)) bytes raw c e dump short calm quiet = absurd (not_both from.left bytes max_source e some short)
 
 pub complete : (words : List (List ℕ)) (came kept : Type 0) (from to : SourceView) (old new : SinkView) (before behind : DiskView) (result : ℕ) → Ending words came kept from to old new before behind result
     → IsComplete words from to old new before behind result
@@ -296,5 +318,6 @@ complete words came kept from to old new before behind result h =
       bad_gates = bad_gates_end words from to old new before behind result m;
       good_runs = good_runs_end words from to old new before behind result m;
       long_dumps = long_dumps_end words from to old new before behind result m;
-      short_dumps = short_dumps_end words from to old new before behind result m;
+      bad_dumps = bad_dumps_end words from to old new before behind result m;
+      good_dumps = good_dumps_end words from to old new before behind result m;
     }

@@ -1,5 +1,5 @@
 -- How a call of the program ends, by its cause.
-use Rattle.std.specs.Prelude.{◌≡◌, ◌⊎◌, ℕ, ◌^◌, ◌-◌, ◌<◌, ◌≤◌, ◌++◌, ◌∷◌, List, [], length, Option, Some, IfSome, OnSome, codes}
+use Rattle.std.specs.Prelude.{◌≡◌, ◌⊎◌, ℕ, ◌^◌, ◌-◌, ◌<◌, ◌≤◌, ◌++◌, ◌∷◌, List, [], length, Option, Some, IfSome, OnSome, codes, IsTrue}
 use Rattle.std.specs.Fmt.{decimal}
 use Rattle.std.specs.Io.KnownBytes.{Appends}
 use Rattle.topo_base.specs.ScriptLines.{ScriptLine}
@@ -21,7 +21,14 @@ use Rattle.topo.specs.declared.words.Shown.TheVariants.{Tables, Features, Histor
 use Rattle.topo_recover.specs.declared.end.RecoverEnd.{RecoverEnd}
 use Rattle.topo_recover.specs.declared.end.RecoverEnd.TheVariants.{NoJournal, DiskFault, Memory}
 use Rattle.topo.specs.Words.{IsForm, AreForm, IsCheck}
+use Rattle.drawing.specs.Plain.{IsPlain}
+use Rattle.drawing.specs.Subdivision.{rings_have_one_face, faces_have_shells}
+use Rattle.drawing.specs.Tables.{drawn}
+use Rattle.validate_topology.specs.Raw.{tables_in}
+use Rattle.validate_topology.specs.Stages.{IsReport}
+use Rattle.validate_topology.specs.declared.raw.RawTables.{RawTables}
 use Rattle.validate_topology.specs.declared.lines.ReportLine.{ReportLine}
+use Rattle.table_dump.specs.Dump.{IsDump, IsFirstBad as IsFirstBadLine}
 use Rattle.table_dump.specs.ReportText.{report_text}
 use Rattle.topo.specs.Views.{SourceView, SinkView, DiskView}
 use Rattle.topo.specs.Output.{Says, Tells, IsCutBy, Prints, due, all_but_last, fault_line, journal_line, report_status}
@@ -123,14 +130,27 @@ pub data Showed (shown : Shown) (kept : Type 0) (old new : SinkView) (before beh
   showed : kept → (read : List Entry) → WasRecovered before read → IsSoundHistory standard read → behind.faults ≡ before.faults
       → Prints old new (shown_text shown read) 0 result → Showed shown kept old new before behind result
 
--- a dump that is reported on: its lines are those of a report, and the status is 0 where there are none
+-- ---- a dump that is reported on
+-- the lines are those of the report on some tables; where there are none, the tables stand for a plain drawing whose rings have one face each, and whose faces have their shells
+pub record IsReportOn (raw : RawTables) (lines : List ReportLine) : Type 0 where
+  pub is : IsReport (tables_in raw) lines
+  pub plain : lines ≡ [] → IsPlain (drawn (tables_in raw))
+  pub rings : lines ≡ [] → IsTrue (rings_have_one_face (drawn (tables_in raw)))
+  pub shells : lines ≡ [] → IsTrue (faces_have_shells (drawn (tables_in raw)))
+
+-- the report is written, and the status is 0 where it has no lines; or there was no memory for it
+pub data ReportsOn (raw : RawTables) (old new : SinkView) (result : ℕ) : Type 0 where
+  no_report : result ≡ 8 → Appends old.written new.written [] → ReportsOn raw old new result
+  reported : (lines : List ReportLine) → IsReportOn raw lines → Prints old new (report_text lines) (report_status lines) result → ReportsOn raw old new result
+
+-- the source told a dump, and its tables are reported on, or its first bad line is named
 pub data Checked (from to : SourceView) (old new : SinkView) (result : ℕ) : Type 0 where
   dump_fault : Rose from.faults to.faults → Says old new (codes "fault source\n") 5 result → Checked from to old new result
   dump_too_long : IfSome from.left (λ bytes. max_source < length bytes) → Says old new (codes "fault long\n") 9 result → Checked from to old new result
   dump_not_read : result ≡ 8 → Appends old.written new.written [] → Checked from to old new result
-  bad_dump_line : (n : ℕ) → WasRead (λ bytes. Unit {0}) from to → Tells old new (fault_line n) 3 result → Checked from to old new result
-  no_report : WasRead (λ bytes. Unit {0}) from to → result ≡ 8 → Appends old.written new.written [] → Checked from to old new result
-  reported : (lines : List ReportLine) → WasRead (λ bytes. Unit {0}) from to → Prints old new (report_text lines) (report_status lines) result → Checked from to old new result
+  no_tables : WasRead (λ bytes. Unit {0}) from to → result ≡ 8 → Appends old.written new.written [] → Checked from to old new result
+  bad_dump_line : (n : ℕ) → WasRead (λ bytes. IsFirstBadLine bytes n) from to → Tells old new (fault_line n) 3 result → Checked from to old new result
+  had_dump : (raw : RawTables) → WasRead (λ bytes. IsDump bytes raw) from to → ReportsOn raw old new result → Checked from to old new result
 
 -- any words
 pub data Ending (words : List (List ℕ)) (came kept : Type 0) (from to : SourceView) (old new : SinkView) (before behind : DiskView) (result : ℕ) : Type 0 where

@@ -10,7 +10,11 @@ use Rattle.topo.specs.declared.words.Form.{Form}
 use Rattle.topo.specs.declared.words.Form.TheVariants.{Apply, Show}
 use Rattle.topo.specs.Words.{IsForm, AreForm, IsCheck}
 use Rattle.topo.specs.Views.{SourceView, SinkView, DiskView}
-use Rattle.topo.specs.Endings.{max_source, standard, WasRead, WasScript, WasRecovered}
+use Rattle.validate_topology.specs.declared.raw.RawTables.{RawTables}
+use Rattle.validate_topology.specs.declared.lines.ReportLine.{ReportLine}
+use Rattle.table_dump.specs.Dump.{IsDump, IsFirstBad as IsFirstBadLine}
+use Rattle.topo.specs.Output.{report_status}
+use Rattle.topo.specs.Endings.{max_source, standard, WasRead, WasScript, WasRecovered, IsReportOn}
 
 -- a script was read whole before the disk was touched; what only shows reads nothing
 abbrev pub HasInput : Form → SourceView → SourceView → Type 0
@@ -21,10 +25,14 @@ HasInput (Show shown) from to = to ≡ from
 abbrev pub HasForm : List (List ℕ) → SourceView → SourceView → Type 0
 HasForm words from to = (form : Form) × IsForm words form × HasInput form from to
 
+-- the status of the report on some tables: 0 where it has no lines, and else 1
+abbrev pub IsReportStatus : RawTables → ℕ → Type 0
+IsReportStatus raw result = (lines : List ReportLine) × IsReportOn raw lines × (result ≡ report_status lines)
+
 -- what each status says of a dump
 pub data MeansOfDump (from to : SourceView) (old new : SinkView) (result : ℕ) : Type 0 where
-  is_reported : result ≤ 1 → WasRead (λ bytes. Unit {0}) from to → MeansOfDump from to old new result
-  has_bad_dump_line : result ≡ 3 → WasRead (λ bytes. Unit {0}) from to → MeansOfDump from to old new result
+  is_reported : (raw : RawTables) → IsReportStatus raw result → WasRead (λ bytes. IsDump bytes raw) from to → MeansOfDump from to old new result
+  has_bad_dump_line : result ≡ 3 → (n : ℕ) → WasRead (λ bytes. IsFirstBadLine bytes n) from to → MeansOfDump from to old new result
   dump_source_failed : result ≡ 5 → Rose from.faults to.faults → MeansOfDump from to old new result
   dump_sink_failed : result ≡ 6 → Rose old.faults new.faults → MeansOfDump from to old new result
   dump_wants_memory : result ≡ 8 → MeansOfDump from to old new result
@@ -60,5 +68,7 @@ pub record IsComplete (words : List (List ℕ)) (from to : SourceView) (old new 
   pub good_runs : (form : Form) (read : List Entry) → IsForm words form → IsGoodInput form from → before.tells → StandsFor standard before.seen read → (Rose from.faults to.faults → ⊥)
       → (Rose old.faults new.faults → ⊥) → (Rose before.faults behind.faults → ⊥) → (result ≤ 1) ⊎ (result ≡ 8)
   pub long_dumps : (bytes : List ℕ) → IsCheck words → from.left ≡ Some bytes → max_source < length bytes → (Rose from.faults to.faults → ⊥) → (result ≡ 9) ⊎ ((result ≡ 6) ⊎ (result ≡ 8))
-  pub short_dumps : (bytes : List ℕ) → IsCheck words → from.left ≡ Some bytes → length bytes ≤ max_source → (Rose from.faults to.faults → ⊥) → (Rose old.faults new.faults → ⊥)
-      → (result ≤ 1) ⊎ ((result ≡ 3) ⊎ (result ≡ 8))
+  pub bad_dumps : (bytes : List ℕ) (n : ℕ) → IsCheck words → from.left ≡ Some bytes → IsFirstBadLine bytes n → length bytes ≤ max_source → (Rose from.faults to.faults → ⊥)
+      → (result ≡ 3) ⊎ ((result ≡ 6) ⊎ (result ≡ 8))
+  pub good_dumps : (bytes : List ℕ) (raw : RawTables) → IsCheck words → from.left ≡ Some bytes → IsDump bytes raw → length bytes ≤ max_source → (Rose from.faults to.faults → ⊥)
+      → (Rose old.faults new.faults → ⊥) → IsReportStatus raw result ⊎ (result ≡ 8)

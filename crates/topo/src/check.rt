@@ -1,8 +1,7 @@
 // A dump is read, and reported on.
-ghost use Rattle.std.specs.Prelude.{◌≡◌, List};
-ghost use Rattle.validate_topology.specs.declared.lines.ReportLine.{ReportLine as LineValue};
+ghost use Rattle.std.specs.Prelude.{◌≡◌};
 ghost use Rattle.table_dump.specs.ReportText.{report_text as text_of_report};
-ghost use Rattle.topo.specs.Endings.{Checked};
+ghost use Rattle.topo.specs.Endings.{Checked, ReportsOn};
 ghost use Rattle.topo.specs.Output.{Prints, report_status};
 
 use crate::end::{end_with, end_with_line};
@@ -42,9 +41,8 @@ fn end_with_lines<K: Sink>(alloc: Global, report: &Report, sink: &mut K) -> Stat
 
 /// Writes the report on some tables.
 fn end_with_report<K: Sink>(alloc: Global, raw: &RawTables, sink: &mut K) -> Status
-    ensures { (lines : List LineValue) × Prints (record { written = K.written sink.old; faults = K.faults sink.old })
-        (record { written = K.written sink.new; faults = K.faults sink.new })
-        (text_of_report lines) (report_status lines) result }
+    ensures { ReportsOn raw.now (record { written = K.written sink.old; faults = K.faults sink.old })
+        (record { written = K.written sink.new; faults = K.faults sink.new }) result }
 {
     match report(alloc, raw) {
         Ok(report) => end_with_lines(alloc, &report, sink),
@@ -52,7 +50,8 @@ fn end_with_report<K: Sink>(alloc: Global, raw: &RawTables, sink: &mut K) -> Sta
     }
 }
 
-/// Reads a dump from the source, and writes the report on its tables.
+/// Reads a dump from the source, and writes the report on its tables, with status 0 where it has no lines and else 1,
+/// or the number of its first bad line, with status 3.
 pub fn check<S: Source, K: Sink>(alloc: Global, source: &mut S, sink: &mut K) -> Status
     ensures { Checked (record { left = S.left source.old; faults = S.faults source.old })
         (record { left = S.left source.new; faults = S.faults source.new })
